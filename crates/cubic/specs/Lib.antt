@@ -1,0 +1,4 @@
+pub mod Piece
+pub mod Slope
+pub mod Test
+pub mod Monotone

@@ -1,0 +1,100 @@
+// The verdict on one piece: rising, falling, flat or bends, or the refusal of a piece outside the limits.
+ghost use mathlib.Core.Path.{_≡_};
+ghost use Rattle.integers.specs.Decided.{Decided};
+ghost use Rattle.cubic.specs.Piece.{NeverAgainst};
+ghost use Rattle.piece.specs.Promise.{Judged, answerOf};
+ghost use Rattle.cubic.specs.Slope.{ellipse};
+ghost use Rattle.piece.specs.Sizes.{Moderate, Low};
+use rules::Refusal;
+
+// What is answered of one piece.
+pub enum Verdict {
+    Rising,
+    Falling,
+    Flat,
+    Bends,
+    Refused(Refusal),
+}
+
+// Fritsch and Carlson's last test is that this is not positive.
+fn ellipse_form(rise: i64, a: i64, b: i64) -> i64
+    requires { ⌜ Low rise a b ⌝ }
+    ensures { λ r. ⌜ r ≡ ellipse rise a b ⌝ }
+{
+    a * a + a * b + b * b - 6 * rise * (a + b) + 9 * (rise * rise)
+}
+
+// Whether the cubic of a rise never slopes against it, by Fritsch and Carlson's test in its short form: with a, b ≥ 0, below the line
+// a + b = 3Z, or in the ellipse. Nothing above 4Z is in the ellipse, so that the squares stay within 64 bits.
+fn never_against(rise: i64, a: i64, b: i64) -> bool
+    requires { ⌜ Moderate rise a b ⌝ }
+    ensures { λ r. ⌜ Decided (NeverAgainst rise a b) r ⌝ }
+{
+    if a < 0 {
+        return false;
+    }
+    if b < 0 {
+        return false;
+    }
+    if a + b <= 3 * rise {
+        return true;
+    }
+    if 4 * rise < a {
+        return false;
+    }
+    if 4 * rise < b {
+        return false;
+    }
+    ellipse_form(rise, a, b) <= 0
+}
+
+// The verdict on the piece of width h and rise z with the slopes m and n at its ends.
+pub fn judge(h: i64, z: i64, m: i32, n: i32) -> Verdict
+    ensures { λ r. ⌜ Judged h z m n (answerOf r) ⌝ }
+{
+    if h < 1 {
+        return Verdict::Refused(Refusal {
+            number: rules::WIDTH,
+            place: 0,
+        });
+    }
+    if rules::WIDEST < h {
+        return Verdict::Refused(Refusal {
+            number: rules::WIDTH,
+            place: 0,
+        });
+    }
+    if z < -rules::STEEPEST {
+        return Verdict::Refused(Refusal {
+            number: rules::RISE,
+            place: 0,
+        });
+    }
+    if rules::STEEPEST < z {
+        return Verdict::Refused(Refusal {
+            number: rules::RISE,
+            place: 0,
+        });
+    }
+    let rise = 256 * z;
+    let a = (m as i64) * h;
+    let b = (n as i64) * h;
+    if 0 < z {
+        if never_against(rise, a, b) {
+            return Verdict::Rising;
+        }
+        return Verdict::Bends;
+    }
+    if z < 0 {
+        if never_against(-rise, -a, -b) {
+            return Verdict::Falling;
+        }
+        return Verdict::Bends;
+    }
+    if a == 0 {
+        if b == 0 {
+            return Verdict::Flat;
+        }
+    }
+    Verdict::Bends
+}
