@@ -4,4 +4,5 @@ pub mod Ring
 pub mod Linear
 pub mod Order
 pub mod Sizes
+pub mod Division
 pub mod Decided

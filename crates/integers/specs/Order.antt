@@ -8,7 +8,7 @@ use Prim.Native.Nat.{ℕ, zero, suc, _+_, _*_, _≤_, _<_}
 use native.Mathlib.Omega.{arith}
 use lib.Dec.{T, not-T, T-not}
 use lib.IntN.{ℤ, pos, negsuc, negℤ, _+ℤ_, _-ℤ_, _*ℤ_}
-use lib.Signed.{_≤ℤ_, _<ℤ_, leZ, ltZ, leZ-yes, ltZ-yes, ltZ-no}
+use lib.Signed.{_≤ℤ_, _<ℤ_, leZ, ltZ, leZ-yes, ltZ-yes, ltZ-no, clashℤ}
 use Rattle.integers.specs.Parts.{P, Q, diff-self, diff-mul, diff-neg, diff-add, ≤-to, ≤-from, <-to, <-from}
 use Rattle.integers.specs.Linear.{lin, says}
 use Rattle.integers.specs.Ring.{ring, quote}
@@ -26,6 +26,11 @@ pub <ℤ→≤ℤ : {x y : ℤ} → x <ℤ y → x ≤ℤ y
 
 pub ≤ℤ-antisym : {x y : ℤ} → x ≤ℤ y → y ≤ℤ x → x ≡ y
 ≤ℤ-antisym {x} {y} = lin (x ∷ y ∷ []) (search says depth 30 fits 9000) (omega arith)
+
+-- between two numbers, both included
+pub record Between (l x h : ℤ) : Type 0 where
+  pub low : l ≤ℤ x
+  pub high : x ≤ℤ h
 
 -- the naturals' order is the same
 pub pos-≤ : {m n : ℕ} → m ≤ n → pos m ≤ℤ pos n
@@ -121,3 +126,10 @@ pub ≤ℤ-cancel : {k x y : ℤ} → pos 0 <ℤ k → (k *ℤ x) ≤ℤ (k *ℤ
 ≤ℤ-cancel {k} {x} {y} h p =
     at-most (y -ℤ x) refl
     (0≤-cancel h (0≤-as (ring (k ∷ x ∷ y ∷ []) (search quote depth 30 fits 9000) tt) (0≤-gap p)))
+
+pub *ℤ-mono : {k x y : ℤ} → pos 0 ≤ℤ k → x ≤ℤ y → (k *ℤ x) ≤ℤ (k *ℤ y)
+*ℤ-mono {k} {x} {y} h p =
+    at-most (k *ℤ (y -ℤ x)) (ring (k ∷ x ∷ y ∷ []) (search quote depth 30 fits 9000) tt) (search signs)
+
+pub <ℤ-cancel : {k x y : ℤ} → pos 0 <ℤ k → (k *ℤ x) <ℤ (k *ℤ y) → x <ℤ y
+<ℤ-cancel {k} {x} {y} h p = ⊎-elim (λ l. clashℤ p (*ℤ-mono (<ℤ→≤ℤ h) l)) (λ l. l) (≤ℤ-or-<ℤ y x)

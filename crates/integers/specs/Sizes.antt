@@ -1,7 +1,7 @@
 -- Code by reflection. A signed value in code is its bits, so an expression shows as x +ℤ y, x *ℤ y with a layer `toZ w (ofZ w ..)` at each step.
 -- `Code Γ x` reads such an expression over the known values Γ, each with a bound of its magnitude, and computes the bound of every step.
 -- Then one line shows that a step fits its width (`fits`), takes the layers off (`plain-is`), or turns a test into an order (`passed`, `failed`).
-use mathlib.Core.Path.{_≡_, refl, sym, _∙_, ap, ap₂, subst}
+use mathlib.Core.Path.{_≡_, refl, sym, _∙_, ap, ap₂, subst, subst₃}
 use mathlib.Core.Bool.{Bool, true, false, not, _&&_}
 use mathlib.Core.List.{List, [], _∷_}
 use mathlib.Core.Logic.{_⊎_, inl, inr, ⊎-elim}
@@ -9,7 +9,7 @@ use Prim.Native.Nat.{ℕ, zero, suc, _+_, _*_, _-_, _^_, _≤_, _<_}
 use native.Mathlib.Omega.{arith}
 use native.Mathlib.Nat.{le-refl, le-trans, lt-of-le-of-lt, mul-le-mul}
 use lib.Dec.{T, ltb, leb, ltb→lt, leb→le}
-use lib.IntN.{ℤ, pos, negsuc, negℤ, subℕ, natAbs, _+ℤ_, _-ℤ_, _*ℤ_}
+use lib.IntN.{ℤ, pos, negsuc, negℤ, subℕ, natAbs, _+ℤ_, _-ℤ_, _*ℤ_, +ℤ-idl}
 use lib.Signed.{_≤ℤ_, _<ℤ_, leZ, ltZ, mag, leZ-yes, ltZ-yes, ltZ-no, natAbs-le}
 use mir.Syntax.{Width, w32, w64}
 use mir.Val.{SFits, toZ, ofZ, hbits}
@@ -83,6 +83,7 @@ pub data Code (Γ : List Known) : ℤ → Type 0 where
   plus : {x y : ℤ} → Code Γ x → Code Γ y → Code Γ (x +ℤ y)
   product : {x y : ℤ} → Code Γ x → Code Γ y → Code Γ (x *ℤ y)
   minus : {x : ℤ} → Code Γ x → Code Γ (negℤ x)
+  opposite : {x : ℤ} → Code Γ x → Code Γ (pos 0 -ℤ x)
   bits64 : {x : ℤ} → Code Γ x → Code Γ (toZ w64 (ofZ w64 x))
   bits32 : {x : ℤ} → Code Γ x → Code Γ (toZ w32 (ofZ w32 x))
   held64 : {x : ℤ} → Held w64 x Γ → Code Γ (toZ w64 (ofZ w64 x))
@@ -94,7 +95,7 @@ pub data Test (Γ : List Known) : Bool → Type 0 where
   less : {x y : ℤ} → Code Γ x → Code Γ y → Test Γ (ltZ x y)
   at-most : {x y : ℤ} → Code Γ x → Code Γ y → Test Γ (leZ x y)
 
-pub ruleset code = (less, at-most, number, below, plus, product, minus, held64, held32, bits64, bits32, listed, first, later, first-held, later-held)
+pub ruleset code = (less, at-most, number, below, opposite, plus, product, minus, held64, held32, bits64, bits32, listed, first, later, first-held, later-held)
 
 -- without the layers
 abbrev pub plain : {Γ : List Known} {x : ℤ} → Code Γ x → ℤ
@@ -103,6 +104,7 @@ plain (below n) = negsuc n
 plain (plus c d) = plain c +ℤ plain d
 plain (product c d) = plain c *ℤ plain d
 plain (minus c) = negℤ (plain c)
+plain (opposite c) = negℤ (plain c)
 plain (bits64 c) = plain c
 plain (bits32 c) = plain c
 plain (held64 {x} v) = x
@@ -119,6 +121,7 @@ size (below n) = suc n
 size (plus c d) = size c + size d
 size (product c d) = size c * size d
 size (minus c) = size c
+size (opposite c) = size c
 size (bits64 c) = size c
 size (bits32 c) = size c
 size (held64 v) = 2 ^ 63
@@ -132,6 +135,7 @@ sound (below n) = true
 sound (plus c d) = sound c && sound d
 sound (product c d) = sound c && sound d
 sound (minus c) = sound c
+sound (opposite c) = sound c
 sound (bits64 c) = sound c && ltb (size c) (2 ^ 63)
 sound (bits32 c) = sound c && ltb (size c) (2 ^ 31)
 sound (held64 v) = true
@@ -158,6 +162,7 @@ size-holds (below n) = le-refl (suc n)
 size-holds (plus c d) = omega (arith, natAbs-plus (plain c) (plain d), size-holds c, size-holds d)
 size-holds (product c d) =
     subst (λ (n : ℕ). n ≤ size c * size d) (sym (natAbs-product (plain c) (plain d))) (mul-le-mul (size-holds c) (size-holds d))
+size-holds (opposite c) = subst (λ (n : ℕ). n ≤ size c) (sym (natAbs-minus (plain c))) (size-holds c)
 size-holds (minus c) = subst (λ (n : ℕ). n ≤ size c) (sym (natAbs-minus (plain c))) (size-holds c)
 size-holds (bits64 c) = size-holds c
 size-holds (bits32 c) = size-holds c
@@ -179,6 +184,7 @@ plain-is (below n) t = refl
 plain-is (plus c d) t = let b = and-yes (sound c) (sound d) t in ap₂ _+ℤ_ (plain-is c (b .0)) (plain-is d (b .1))
 plain-is (product c d) t = let b = and-yes (sound c) (sound d) t in ap₂ _*ℤ_ (plain-is c (b .0)) (plain-is d (b .1))
 plain-is (minus c) t = ap negℤ (plain-is c t)
+plain-is (opposite {x} c) t = +ℤ-idl (negℤ x) ∙ ap negℤ (plain-is c t)
 plain-is (bits64 c) t = let b = and-yes (sound c) (ltb (size c) (2 ^ 63)) t in layer w64 (plain-is c (b .0)) (small-fits w64 c (b .1))
 plain-is (bits32 c) t = let b = and-yes (sound c) (ltb (size c) (2 ^ 31)) t in layer w32 (plain-is c (b .0)) (small-fits w32 c (b .1))
 plain-is (held64 v) t = toZ-ofZ (held-fits v)
@@ -222,6 +228,32 @@ sized Γ {M} c t =
     let b = and-yes (sound c) (leb (size c) M) t in
     record
     { size = subst (λ (v : ℤ). natAbs v ≤ M) (sym (plain-is c (b .0))) (le-trans (size-holds c) (leb→le (size c) M (b .1))) }
+
+-- three expressions, as the arguments of a call
+pub data Three (Γ : List Known) (x y z : ℤ) : Type 0 where
+  three : Code Γ x → Code Γ y → Code Γ z → Three Γ x y z
+
+pub ruleset codes = (three, code)
+
+abbrev sound-all : {Γ : List Known} {x y z : ℤ} → Three Γ x y z → Bool
+sound-all (three c d e) = sound c && (sound d && sound e)
+
+-- a relation of three plain values
+abbrev pub Plainly : (ℤ → ℤ → ℤ → Type 0) → {Γ : List Known} {x y z : ℤ} → Three Γ x y z → Type 0
+Plainly R (three c d e) = R (plain c) (plain d) (plain e)
+
+-- what holds of the arguments as the code has them holds of the plain values, and the other way round
+pub plainly : (Γ : List Known) (R : ℤ → ℤ → ℤ → Type 0) {x y z : ℤ} → R x y z → (t : Three Γ x y z) → T (sound-all t) → Plainly R t
+plainly Γ R h (three c d e) t =
+    let a = and-yes (sound c) (sound d && sound e) t in
+    let b = and-yes (sound d) (sound e) (a .1) in
+    subst₃ R (plain-is c (a .0)) (plain-is d (b .0)) (plain-is e (b .1)) h
+
+pub as-coded : (Γ : List Known) (R : ℤ → ℤ → ℤ → Type 0) {x y z : ℤ} (t : Three Γ x y z) → T (sound-all t) → Plainly R t → R x y z
+as-coded Γ R (three c d e) t h =
+    let a = and-yes (sound c) (sound d && sound e) t in
+    let b = and-yes (sound d) (sound e) (a .1) in
+    subst₃ R (sym (plain-is c (a .0))) (sym (plain-is d (b .0))) (sym (plain-is e (b .1))) h
 
 -- ---- a test of a number against 0 compares its bits
 

@@ -2,6 +2,7 @@
 ghost use mathlib.Core.Path.{_≡_};
 ghost use Rattle.integers.specs.Decided.{Decided};
 ghost use Rattle.cubic.specs.Piece.{NeverAgainst};
+ghost use Rattle.rules.specs.Limits.{WidthWithin, RiseWithin};
 ghost use Rattle.piece.specs.Promise.{Judged, answerOf};
 ghost use Rattle.cubic.specs.Slope.{ellipse};
 ghost use Rattle.piece.specs.Sizes.{Moderate, Low};
@@ -48,34 +49,12 @@ fn never_against(rise: i64, a: i64, b: i64) -> bool
     ellipse_form(rise, a, b) <= 0
 }
 
-// The verdict on the piece of width h and rise z with the slopes m and n at its ends.
-pub fn judge(h: i64, z: i64, m: i32, n: i32) -> Verdict
+// The verdict on a piece within the limits: the test for its rise's sign, or level throughout where it has none.
+fn shape(h: i64, z: i64, m: i32, n: i32) -> Verdict
+    requires { ⌜ WidthWithin h ⌝ }
+    requires { ⌜ RiseWithin z ⌝ }
     ensures { λ r. ⌜ Judged h z m n (answerOf r) ⌝ }
 {
-    if h < 1 {
-        return Verdict::Refused(Refusal {
-            number: rules::WIDTH,
-            place: 0,
-        });
-    }
-    if rules::WIDEST < h {
-        return Verdict::Refused(Refusal {
-            number: rules::WIDTH,
-            place: 0,
-        });
-    }
-    if z < -rules::STEEPEST {
-        return Verdict::Refused(Refusal {
-            number: rules::RISE,
-            place: 0,
-        });
-    }
-    if rules::STEEPEST < z {
-        return Verdict::Refused(Refusal {
-            number: rules::RISE,
-            place: 0,
-        });
-    }
     let rise = 256 * z;
     let a = (m as i64) * h;
     let b = (n as i64) * h;
@@ -97,4 +76,24 @@ pub fn judge(h: i64, z: i64, m: i32, n: i32) -> Verdict
         }
     }
     Verdict::Bends
+}
+
+// The verdict on the piece of width h and rise z with the slopes m and n at its ends, or its refusal: by 3 where the width, else by 4 where
+// the rise is outside its limits, at place 0.
+pub fn judge(h: i64, z: i64, m: i32, n: i32) -> Verdict
+    ensures { λ r. ⌜ Judged h z m n (answerOf r) ⌝ }
+{
+    if !rules::width_within(h) {
+        return Verdict::Refused(Refusal {
+            number: rules::WIDTH,
+            place: 0,
+        });
+    }
+    if !rules::rise_within(z) {
+        return Verdict::Refused(Refusal {
+            number: rules::RISE,
+            place: 0,
+        });
+    }
+    shape(h, z, m, n)
 }

@@ -1,14 +1,11 @@
--- "Numbers that bound everything" of the exact rules, and its refusals.
+-- "Numbers that bound everything" of the exact rules, as far as they bound a piece.
 use lib.IntN.{ℤ, pos, negsuc}
-use lib.Signed.{_≤ℤ_}
-use Prim.Native.Nat.{ℕ}
+use Rattle.integers.specs.Order.{Between}
 
 -- "h from 1 to 1,024"
-pub record WidthWithin (h : ℤ) : Type 0 where
-  pub low : pos 1 ≤ℤ h
-  pub high : h ≤ℤ pos 1024
+abbrev pub WidthWithin : ℤ → Type 0
+WidthWithin h = Between (pos 1) h (pos 1024)
 
 -- "z from −1,048,576 to 1,048,576"
-pub record RiseWithin (z : ℤ) : Type 0 where
-  pub low : negsuc 1048575 ≤ℤ z
-  pub high : z ≤ℤ pos 1048576
+abbrev pub RiseWithin : ℤ → Type 0
+RiseWithin z = Between (negsuc 1048575) z (pos 1048576)

@@ -1,4 +1,6 @@
-// The numbers of the exact rules: what bounds a table, and how a refusal is answered.
+// The numbers of the exact rules: the limits of a piece, and how a refusal is answered.
+ghost use Rattle.integers.specs.Decided.{Decided};
+ghost use Rattle.rules.specs.Limits.{WidthWithin, RiseWithin};
 
 // A refusal: its number in the exact rules, and the place that it names.
 pub struct Refusal {
@@ -6,10 +8,21 @@ pub struct Refusal {
     pub place: usize,
 }
 
+// A width is not in 1 to 1,024.
 pub const WIDTH: u32 = 3;
-
+// A rise is outside its limits.
 pub const RISE: u32 = 4;
 
-pub const WIDEST: i64 = 1024;
+// Whether a width is in 1 to 1,024.
+pub fn width_within(h: i64) -> bool
+    ensures { λ r. ⌜ Decided (WidthWithin h) r ⌝ }
+{
+    integers::between(1, h, 1024)
+}
 
-pub const STEEPEST: i64 = 1048576;
+// Whether a rise is in -1,048,576 to 1,048,576.
+pub fn rise_within(z: i64) -> bool
+    ensures { λ r. ⌜ Decided (RiseWithin z) r ⌝ }
+{
+    integers::between(-1048576, z, 1048576)
+}

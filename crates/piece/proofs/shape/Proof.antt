@@ -1,0 +1,172 @@
+-- `piece::shape` meets its contract: each way through the code is one case of the promise.
+use mathlib.Core.Path.{_≡_, sym, subst}
+use mathlib.Core.List.{List, [], _∷_}
+use native.Mathlib.Omega.{arith}
+use lib.IntN.{ℤ, pos, negℤ, _*ℤ_}
+use lib.Signed.{_≤ℤ_, _<ℤ_, leZ-yes}
+use mir.Syntax.{w32, w64}
+use Rattle.integers.specs.Decided.{told, denied}
+use Rattle.integers.specs.Linear.{lin, says}
+use Rattle.integers.specs.Order.{≤ℤ-trans, ≤ℤ-antisym}
+use Rattle.integers.specs.Sizes.{Known, known, held, within, fits, sized, plain-is, plainly, as-coded, code, codes, bits, passed, failed, zero-yes, zero-no}
+use Rattle.cubic.specs.Piece.{NeverAgainst}
+use Rattle.cubic.specs.Monotone.{monotone-rising, monotone-falling, monotone-level}
+use Rattle.piece.specs.Promise.{is-rising, is-falling, is-flat, is-bent}
+use Rattle.piece.proofs.shape.Statement.{statement}
+use Rattle.piece.proofs.shape.Tie as tie
+
+-- what the limits and the types say of the arguments
+abbrev given : tie.Start → List Known
+given s =
+    let w = s .pre .0 in
+    let r = s .pre .1 in
+    known (s .args .h) 1024 (within 1024 (s .args .h) (≤ℤ-trans (leZ-yes tt) (w .low)) (w .high))
+    ∷ known (s .args .z) 1048576 (within 1048576 (s .args .z) (r .low) (r .high))
+    ∷ held w32 (s .args .m) (s .fits .m)
+    ∷ held w32 (s .args .n) (s .fits .n)
+    ∷ []
+
+mul-rise : tie.Need-mul-rise
+mul-rise c = fits (given c) w64 (search code depth 30 fits 9000) tt
+
+cast-a : tie.Need-cast-a
+cast-a c = fits (given c) w64 (search code depth 30 fits 9000) tt
+
+mul-a : tie.Need-mul-a
+mul-a c = fits (given c) w64 (search code depth 30 fits 9000) tt
+
+cast-b : tie.Need-cast-b
+cast-b c = fits (given c) w64 (search code depth 30 fits 9000) tt
+
+mul-b : tie.Need-mul-b
+mul-b c = fits (given c) w64 (search code depth 30 fits 9000) tt
+
+-- ---- a rise
+
+up : (c : tie.Then1) → pos 0 <ℤ c .before .args .z
+up c = passed (given (c .before)) (c .if1 .taken) (search code depth 30 fits 9000) tt
+
+never-against-requires : tie.Need-never-against-requires
+never-against-requires c κs =
+    let Γ = given (c .before) in
+    record {
+      up = subst (λ (v : ℤ). pos 0 <ℤ v) (sym (plain-is {Γ = Γ} (search code depth 30 fits 9000) tt)) (scaled (up c));
+      rise = sized Γ (search code depth 30 fits 9000) tt;
+      start = sized Γ (search code depth 30 fits 9000) tt;
+      end = sized Γ (search code depth 30 fits 9000) tt;
+    }
+  where
+    scaled : {z : ℤ} → pos 0 <ℤ z → pos 0 <ℤ (pos 256 *ℤ z)
+    scaled {z} = lin (z ∷ []) (search says depth 30 fits 9000) (omega arith)
+
+returns : tie.Need-returns
+returns c =
+    let p = c .before .before in
+    let s = p .before in
+    is-rising (s .pre .0) (s .pre .1) (up p)
+    (monotone-rising (up p)
+    (plainly (given s) NeverAgainst (told (c .before .never-against .ensures) (c .if2 .taken)) (search codes depth 30 fits 9000) tt))
+
+returns-2 : tie.Need-returns-2
+returns-2 c =
+    let p = c .before .before in
+    let s = p .before in
+    is-bent (s .pre .0) (s .pre .1)
+    (λ m. denied (c .before .never-against .ensures) (c .if2 .left)
+    (as-coded (given s) NeverAgainst (search codes depth 30 fits 9000) tt (m .rising (up p))))
+
+-- ---- a fall
+
+down : (c : tie.Then3) → c .before .before .args .z <ℤ pos 0
+down c = passed (given (c .before .before)) (c .if3 .taken) (search code depth 30 fits 9000) tt
+
+sub-never-against : tie.Need-sub-never-against
+sub-never-against c = fits (given (c .before .before)) w64 (search code depth 30 fits 9000) tt
+
+sub-never-against-2 : tie.Need-sub-never-against-2
+sub-never-against-2 c = fits (given (c .before .before)) w64 (search code depth 30 fits 9000) tt
+
+sub-never-against-3 : tie.Need-sub-never-against-3
+sub-never-against-3 c = fits (given (c .before .before)) w64 (search code depth 30 fits 9000) tt
+
+never-against-requires-2 : tie.Need-never-against-requires-2
+never-against-requires-2 c κs =
+    let Γ = given (c .before .before) in
+    record {
+      up = subst (λ (v : ℤ). pos 0 <ℤ v) (sym (plain-is {Γ = Γ} (search code depth 30 fits 9000) tt)) (scaled (down c));
+      rise = sized Γ (search code depth 30 fits 9000) tt;
+      start = sized Γ (search code depth 30 fits 9000) tt;
+      end = sized Γ (search code depth 30 fits 9000) tt;
+    }
+  where
+    scaled : {z : ℤ} → z <ℤ pos 0 → pos 0 <ℤ negℤ (pos 256 *ℤ z)
+    scaled {z} = lin (z ∷ []) (search says depth 30 fits 9000) (omega arith)
+
+returns-3 : tie.Need-returns-3
+returns-3 c =
+    let p = c .before .before in
+    let s = p .before .before in
+    is-falling (s .pre .0) (s .pre .1) (down p)
+    (monotone-falling (down p)
+    (plainly (given s) NeverAgainst (told (c .before .never-against2 .ensures) (c .if4 .taken)) (search codes depth 30 fits 9000) tt))
+
+returns-4 : tie.Need-returns-4
+returns-4 c =
+    let p = c .before .before in
+    let s = p .before .before in
+    is-bent (s .pre .0) (s .pre .1)
+    (λ m. denied (c .before .never-against2 .ensures) (c .if4 .left)
+    (as-coded (given s) NeverAgainst (search codes depth 30 fits 9000) tt (m .falling (down p))))
+
+-- ---- neither
+
+level : (c : tie.Else3) → c .before .before .args .z ≡ pos 0
+level c =
+    let Γ = given (c .before .before) in
+    ≤ℤ-antisym (failed Γ (c .before .if1 .left) (search code depth 30 fits 9000) tt)
+    (failed Γ (c .if3 .left) (search code depth 30 fits 9000) tt)
+
+returns-5 : tie.Need-returns-5
+returns-5 c =
+    let p = c .before .before in
+    let s = p .before .before in
+    is-flat (s .pre .0) (s .pre .1) (level p)
+    (monotone-level (level p)
+    (zero-yes (given s) (c .before .if5 .taken) (search bits depth 30 fits 9000) tt)
+    (zero-yes (given s) (c .if6 .taken) (search bits depth 30 fits 9000) tt))
+
+returns-6 : tie.Need-returns-6
+returns-6 c =
+    let p = c .before .before in
+    let s = p .before .before in
+    is-bent (s .pre .0) (s .pre .1)
+    (λ m. zero-no (given s) (c .if6 .left) (search bits depth 30 fits 9000) tt (m .level (level p) .1))
+
+returns-7 : tie.Need-returns-7
+returns-7 c =
+    let p = c .before in
+    let s = p .before .before in
+    is-bent (s .pre .0) (s .pre .1)
+    (λ m. zero-no (given s) (c .if5 .left) (search bits depth 30 fits 9000) tt (m .level (level p) .0))
+
+pub shape-spec : {M : Type 1} → statement M
+shape-spec =
+    tie.close
+    (tie.spec
+    mul-rise
+    cast-a
+    mul-a
+    cast-b
+    mul-b
+    never-against-requires
+    returns
+    returns-2
+    sub-never-against
+    sub-never-against-2
+    sub-never-against-3
+    never-against-requires-2
+    returns-3
+    returns-4
+    returns-5
+    returns-6
+    returns-7)
