@@ -1,2 +1,4 @@
 pub mod Promise
+pub mod Determined
+pub mod Leaning
 pub mod Sizes

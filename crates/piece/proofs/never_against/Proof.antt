@@ -12,7 +12,8 @@ use Rattle.integers.specs.Linear.{lin, says}
 use Rattle.integers.specs.Sizes.{Known, known, held, Within, within, within-high, fits, code, passed, failed}
 use Rattle.cubic.specs.Slope.{ellipse}
 use Rattle.piece.specs.Sizes.{Low}
-use Rattle.cubic.specs.Test.{line, oval, short-accepts, start-not-against, end-not-against, start-below-four, end-below-four, inside-ellipse}
+use Rattle.cubic.specs.Test.{line, oval, short-accepts}
+use Rattle.cubic.specs.Never.{start-not-against, end-not-against, start-below-four, end-below-four, inside-ellipse}
 use Rattle.piece.proofs.never_against.Statement.{statement}
 use Rattle.piece.proofs.never_against.Tie as tie
 

@@ -11,7 +11,8 @@ use Rattle.integers.specs.Order.{≤ℤ-trans, ≤ℤ-antisym}
 use Rattle.integers.specs.Sizes.{Known, known, held, within, fits, sized, plain-is, plainly, as-coded, code, codes, bits, passed, failed, zero-yes, zero-no}
 use Rattle.cubic.specs.Piece.{NeverAgainst}
 use Rattle.cubic.specs.Monotone.{monotone-rising, monotone-falling, monotone-level}
-use Rattle.piece.specs.Promise.{is-rising, is-falling, is-flat, is-bent}
+use Rattle.piece.specs.Promise.{bent}
+use Rattle.piece.specs.Leaning.{is-rising, is-falling, is-flat}
 use Rattle.piece.proofs.shape.Statement.{statement}
 use Rattle.piece.proofs.shape.Tie as tie
 
@@ -71,7 +72,7 @@ returns-2 : tie.Need-returns-2
 returns-2 c =
     let p = c .before .before in
     let s = p .before in
-    is-bent (s .pre .0) (s .pre .1)
+    bent (s .pre .0) (s .pre .1)
     (λ m. denied (c .before .never-against .ensures) (c .if2 .left)
     (as-coded (given s) NeverAgainst (search codes depth 30 fits 9000) tt (m .rising (up p))))
 
@@ -114,7 +115,7 @@ returns-4 : tie.Need-returns-4
 returns-4 c =
     let p = c .before .before in
     let s = p .before .before in
-    is-bent (s .pre .0) (s .pre .1)
+    bent (s .pre .0) (s .pre .1)
     (λ m. denied (c .before .never-against2 .ensures) (c .if4 .left)
     (as-coded (given s) NeverAgainst (search codes depth 30 fits 9000) tt (m .falling (down p))))
 
@@ -139,14 +140,14 @@ returns-6 : tie.Need-returns-6
 returns-6 c =
     let p = c .before .before in
     let s = p .before .before in
-    is-bent (s .pre .0) (s .pre .1)
+    bent (s .pre .0) (s .pre .1)
     (λ m. zero-no (given s) (c .if6 .left) (search bits depth 30 fits 9000) tt (m .level (level p) .1))
 
 returns-7 : tie.Need-returns-7
 returns-7 c =
     let p = c .before in
     let s = p .before .before in
-    is-bent (s .pre .0) (s .pre .1)
+    bent (s .pre .0) (s .pre .1)
     (λ m. zero-no (given s) (c .if5 .left) (search bits depth 30 fits 9000) tt (m .level (level p) .0))
 
 pub shape-spec : {M : Type 1} → statement M
