@@ -44,6 +44,13 @@ at-turn Z a b = ring (Z ∷ a ∷ b ∷ []) (search quote depth 30 fits 9000) tt
 pub fourfold : (Z a b : ℤ) → pos 4 *ℤ ellipse Z a b ≡ (pos 2 *ℤ b +ℤ a -ℤ pos 6 *ℤ Z) *ℤ (pos 2 *ℤ b +ℤ a -ℤ pos 6 *ℤ Z) +ℤ pos 3 *ℤ a *ℤ (a -ℤ pos 4 *ℤ Z)
 fourfold Z a b = ring (Z ∷ a ∷ b ∷ []) (search quote depth 30 fits 9000) tt
 
+-- what the sum of the slopes has over 3Z, and the ellipse's form from it
+abbrev pub over : (Z a b : ℤ) → ℤ
+over Z a b = a +ℤ b -ℤ pos 3 *ℤ Z
+
+pub ellipse-over : (Z a b : ℤ) → ellipse Z a b ≡ over Z a b *ℤ over Z a b -ℤ a *ℤ b
+ellipse-over Z a b = ring (Z ∷ a ∷ b ∷ []) (search quote depth 30 fits 9000) tt
+
 -- the box: where neither slope is above three times the rise
 pub boxed : (Z a b k q : ℤ) → pos 3 *ℤ Z *ℤ slopeAt Z a b k q ≡ pos 2 *ℤ (pos 3 *ℤ Z -ℤ a) *ℤ (pos 3 *ℤ Z -ℤ b) *ℤ (k *ℤ (q -ℤ k)) +ℤ a *ℤ (pos 3 *ℤ Z -ℤ b) *ℤ ((q -ℤ k) *ℤ (q -ℤ k)) +ℤ (pos 3 *ℤ Z -ℤ a) *ℤ b *ℤ (k *ℤ k) +ℤ a *ℤ b *ℤ ((q -ℤ pos 2 *ℤ k) *ℤ (q -ℤ pos 2 *ℤ k))
 boxed Z a b k q = ring (Z ∷ a ∷ b ∷ k ∷ q ∷ []) (search quote depth 30 fits 9000) tt

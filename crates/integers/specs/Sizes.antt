@@ -193,8 +193,8 @@ plain-is (listed v) t = refl
 
 -- ---- what a proof cites
 
-pub fits : (Γ : List Known) (w : Width) {x : ℤ} (c : Code Γ x) → T (sound c && ltb (size c) (2 ^ hbits w)) → SFits w x
-fits Γ w c t =
+pub fits : (Γ : List Known) {w : Width} {x : ℤ} (c : Code Γ x) → T (sound c && ltb (size c) (2 ^ hbits w)) → SFits w x
+fits Γ {w} c t =
     let b = and-yes (sound c) (ltb (size c) (2 ^ hbits w)) t in
     subst (λ (v : ℤ). SFits w v) (sym (plain-is c (b .0))) (small-fits w c (b .1))
 

@@ -1,4 +1,4 @@
--- The sizes that the limits leave to a rise Z and to the slopes times the width, and those that are left once neither is above 4Z.
+-- The sizes that the limits leave to a rise Z and to the slopes times the width.
 use Prim.Native.Nat.{_^_}
 use lib.IntN.{ℤ, pos}
 use lib.Signed.{_<ℤ_}
@@ -9,8 +9,3 @@ pub record Moderate (Z a b : ℤ) : Type 0 where
   pub rise : Within (2 ^ 28) Z
   pub start : Within (2 ^ 41) a
   pub end : Within (2 ^ 41) b
-
-pub record Low (Z a b : ℤ) : Type 0 where
-  pub rise : Within (2 ^ 28) Z
-  pub start : Within (2 ^ 30) a
-  pub end : Within (2 ^ 30) b

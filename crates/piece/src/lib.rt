@@ -1,11 +1,9 @@
 // The verdict on one piece: rising, falling, flat or bends, or the refusal of a piece outside the limits.
-ghost use mathlib.Core.Path.{_≡_};
 ghost use Rattle.integers.specs.Decided.{Decided};
 ghost use Rattle.cubic.specs.Piece.{NeverAgainst};
 ghost use Rattle.rules.specs.Limits.{WidthWithin, RiseWithin};
 ghost use Rattle.piece.specs.Promise.{Judged, answerOf};
-ghost use Rattle.cubic.specs.Slope.{ellipse};
-ghost use Rattle.piece.specs.Sizes.{Moderate, Low};
+ghost use Rattle.piece.specs.Sizes.{Moderate};
 use rules::Refusal;
 
 // What is answered of one piece.
@@ -17,16 +15,8 @@ pub enum Verdict {
     Refused(Refusal),
 }
 
-// Fritsch and Carlson's last test is that this is not positive.
-fn ellipse_form(rise: i64, a: i64, b: i64) -> i64
-    requires { ⌜ Low rise a b ⌝ }
-    ensures { λ r. ⌜ r ≡ ellipse rise a b ⌝ }
-{
-    a * a + a * b + b * b - 6 * rise * (a + b) + 9 * (rise * rise)
-}
-
-// Whether the cubic of a rise never slopes against it, by Fritsch and Carlson's test in its short form: with a, b ≥ 0, below the line
-// a + b = 3Z, or in the ellipse. Nothing above 4Z is in the ellipse, so that the squares stay within 64 bits.
+// Whether the cubic of a rise never slopes against it, by Fritsch and Carlson's test in its short form: a, b ≥ 0, and not above the line
+// a + b = 3Z, or in the ellipse (a + b − 3Z)² ≤ a·b. Nothing above 4Z is in the ellipse, so that both products fit.
 fn never_against(rise: i64, a: i64, b: i64) -> bool
     requires { ⌜ Moderate rise a b ⌝ }
     ensures { λ r. ⌜ Decided (NeverAgainst rise a b) r ⌝ }
@@ -37,7 +27,8 @@ fn never_against(rise: i64, a: i64, b: i64) -> bool
     if b < 0 {
         return false;
     }
-    if a + b <= 3 * rise {
+    let over = a + b - 3 * rise;
+    if over <= 0 {
         return true;
     }
     if 4 * rise < a {
@@ -46,7 +37,7 @@ fn never_against(rise: i64, a: i64, b: i64) -> bool
     if 4 * rise < b {
         return false;
     }
-    ellipse_form(rise, a, b) <= 0
+    over * over <= a * b
 }
 
 // The verdict on a piece within the limits: the test for its rise's sign, or level throughout where it has none.
@@ -55,27 +46,27 @@ fn shape(h: i64, z: i64, m: i32, n: i32) -> Verdict
     requires { ⌜ RiseWithin z ⌝ }
     ensures { λ r. ⌜ Judged h z m n (answerOf r) ⌝ }
 {
-    let rise = 256 * z;
+    let rise = rules::UNIT * z;
     let a = (m as i64) * h;
     let b = (n as i64) * h;
     if 0 < z {
         if never_against(rise, a, b) {
             return Verdict::Rising;
         }
-        return Verdict::Bends;
+        return Verdict::Bends; // down on its way up
     }
     if z < 0 {
         if never_against(-rise, -a, -b) {
             return Verdict::Falling;
         }
-        return Verdict::Bends;
+        return Verdict::Bends; // up on its way down
     }
     if a == 0 {
         if b == 0 {
             return Verdict::Flat;
         }
     }
-    Verdict::Bends
+    Verdict::Bends // a slope where there is no rise
 }
 
 // The verdict on the piece of width h and rise z with the slopes m and n at its ends, or its refusal: by 3 where the width, else by 4 where

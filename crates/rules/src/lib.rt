@@ -8,6 +8,9 @@ pub struct Refusal {
     pub place: usize,
 }
 
+// Slopes are in units of 1/256 of a value per count.
+pub const UNIT: i64 = 256;
+
 // A width is not in 1 to 1,024.
 pub const WIDTH: u32 = 3;
 // A rise is outside its limits.

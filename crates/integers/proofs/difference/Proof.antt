@@ -9,13 +9,13 @@ abbrev given : tie.Start → List Known
 given s = held w32 (s .args .left) (s .fits .left) ∷ held w32 (s .args .right) (s .fits .right) ∷ []
 
 cast-result : tie.Need-cast-result
-cast-result c = fits (given c) w64 (search code depth 30 fits 9000) tt
+cast-result c = fits (given c) (search code depth 30 fits 9000) tt
 
 cast-result-2 : tie.Need-cast-result-2
-cast-result-2 c = fits (given c) w64 (search code depth 30 fits 9000) tt
+cast-result-2 c = fits (given c) (search code depth 30 fits 9000) tt
 
 sub-result : tie.Need-sub-result
-sub-result c = fits (given c) w64 (search code depth 30 fits 9000) tt
+sub-result c = fits (given c) (search code depth 30 fits 9000) tt
 
 returns : tie.Need-returns
 returns c = plain-is {Γ = given c} (search code depth 30 fits 9000) tt

@@ -28,19 +28,19 @@ given s =
     ∷ []
 
 mul-rise : tie.Need-mul-rise
-mul-rise c = fits (given c) w64 (search code depth 30 fits 9000) tt
+mul-rise c = fits (given c) (search code depth 30 fits 9000) tt
 
 cast-a : tie.Need-cast-a
-cast-a c = fits (given c) w64 (search code depth 30 fits 9000) tt
+cast-a c = fits (given c) (search code depth 30 fits 9000) tt
 
 mul-a : tie.Need-mul-a
-mul-a c = fits (given c) w64 (search code depth 30 fits 9000) tt
+mul-a c = fits (given c) (search code depth 30 fits 9000) tt
 
 cast-b : tie.Need-cast-b
-cast-b c = fits (given c) w64 (search code depth 30 fits 9000) tt
+cast-b c = fits (given c) (search code depth 30 fits 9000) tt
 
 mul-b : tie.Need-mul-b
-mul-b c = fits (given c) w64 (search code depth 30 fits 9000) tt
+mul-b c = fits (given c) (search code depth 30 fits 9000) tt
 
 -- ---- a rise
 
@@ -82,13 +82,13 @@ down : (c : tie.Then3) → c .before .before .args .z <ℤ pos 0
 down c = passed (given (c .before .before)) (c .if3 .taken) (search code depth 30 fits 9000) tt
 
 sub-never-against : tie.Need-sub-never-against
-sub-never-against c = fits (given (c .before .before)) w64 (search code depth 30 fits 9000) tt
+sub-never-against c = fits (given (c .before .before)) (search code depth 30 fits 9000) tt
 
 sub-never-against-2 : tie.Need-sub-never-against-2
-sub-never-against-2 c = fits (given (c .before .before)) w64 (search code depth 30 fits 9000) tt
+sub-never-against-2 c = fits (given (c .before .before)) (search code depth 30 fits 9000) tt
 
 sub-never-against-3 : tie.Need-sub-never-against-3
-sub-never-against-3 c = fits (given (c .before .before)) w64 (search code depth 30 fits 9000) tt
+sub-never-against-3 c = fits (given (c .before .before)) (search code depth 30 fits 9000) tt
 
 never-against-requires-2 : tie.Need-never-against-requires-2
 never-against-requires-2 c κs =
