@@ -1,0 +1,8 @@
+// The workbench: reads a command a line from standard input, and writes an answer a line to standard output.
+mod answers;
+mod commands;
+mod input;
+
+fn main() {
+    input::serve();
+}

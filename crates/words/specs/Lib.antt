@@ -1,0 +1,11 @@
+pub mod Words
+pub mod Runs
+pub mod Walk
+pub mod Lines
+pub mod Joining
+pub mod Decimal
+pub mod Digits
+pub mod Reading
+pub mod Text
+pub mod Spelling
+pub mod Examples
