@@ -1,5 +1,5 @@
 -- A piece is monotone by the one clause of the definition that its rise asks for.
-use mathlib.Core.Path.{_≡_, sym, subst}
+use mathlib.Core.Path.{_≡_, subst}
 use lib.IntN.{ℤ, pos, negℤ, _*ℤ_}
 use lib.Signed.{_<ℤ_, clashℤ, ≤ℤ-refl}
 use Rattle.integers.specs.Order.{<ℤ→≤ℤ}

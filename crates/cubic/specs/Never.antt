@@ -1,6 +1,6 @@
 -- What follows for a piece whose slope is never against its rise Z: the ends, the least slope, the mirror image, and nothing above 4Z.
 use mathlib.Core.Path.{_≡_, sym}
-use mathlib.Core.List.{List, [], _∷_}
+use mathlib.Core.List.{[], _∷_}
 use mathlib.Core.Logic.{⊎-elim}
 use native.Mathlib.Omega.{arith}
 use lib.Dec.{lit≤}

@@ -1,7 +1,7 @@
 -- The exact rules' definitions for one piece, as they are written there. Whoever believes a promise about pieces believes this file.
 use mathlib.Core.Path.{_≡_}
 use Prim.Native.Nat.{ℕ, _≤_}
-use lib.IntN.{ℤ, pos, negsuc, negℤ, _+ℤ_, _-ℤ_, _*ℤ_}
+use lib.IntN.{ℤ, pos, negℤ, _+ℤ_, _-ℤ_, _*ℤ_}
 use lib.Signed.{_≤ℤ_, _<ℤ_}
 
 -- Slopes are in units of 1/256 of a value per count.

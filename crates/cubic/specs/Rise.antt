@@ -1,13 +1,13 @@
 -- The cubic itself, from its slope: Simpson's rule is exact on cubics, so that a slope that is never against the rise puts any two fractions of
 -- the width in order.
-use mathlib.Core.Path.{_≡_, sym}
-use mathlib.Core.List.{List, [], _∷_}
+use mathlib.Core.Path.{_≡_}
+use mathlib.Core.List.{[], _∷_}
 use native.Mathlib.Omega.{arith}
 use lib.IntN.{ℤ, pos, negℤ, _+ℤ_, _-ℤ_, _*ℤ_}
-use lib.Signed.{_≤ℤ_, _<ℤ_, ltZ-yes}
+use lib.Signed.{_≤ℤ_, ltZ-yes}
 use Rattle.integers.specs.Ring.{ring, quote}
 use Rattle.integers.specs.Linear.{lin, says}
-use Rattle.integers.specs.Order.{at-most, signs, 0≤-as, 0≤-cancel, 0≤-gap, ≤ℤ-trans}
+use Rattle.integers.specs.Order.{at-most, signs, 0≤-as, 0≤-cancel, ≤ℤ-trans}
 use Rattle.cubic.specs.Piece.{slopeAt, riseAt, NeverAgainst}
 use Rattle.cubic.specs.Never.{at-fraction}
 

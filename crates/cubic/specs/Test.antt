@@ -1,7 +1,7 @@
 -- Two tests decide the definition for a positive rise Z: Fritsch and Carlson's, as the exact rules read it, and a shorter one with one line in
 -- place of three.
 use mathlib.Core.Path.{_≡_}
-use mathlib.Core.List.{List, [], _∷_}
+use mathlib.Core.List.{[], _∷_}
 use mathlib.Core.Logic.{_⊎_, inl, inr, ⊎-elim}
 use native.Mathlib.Omega.{arith}
 use lib.IntN.{ℤ, pos, _+ℤ_, _-ℤ_, _*ℤ_}

@@ -1,13 +1,9 @@
 -- The laws of ℤ's product that the kit lacks, by parts.
-use mathlib.Core.Path.{_≡_, refl, sym, _∙_, ap}
-use Prim.Native.Nat.{ℕ, zero, suc, _+_, _*_}
+use mathlib.Core.Path.{_≡_, _∙_}
+use Prim.Native.Nat.{_+_}
 use native.Mathlib.Omega.{arith}
 use lib.IntN.{ℤ, pos, negsuc, negℤ, _+ℤ_, _-ℤ_, _*ℤ_, *ℤ-comm}
-use Rattle.integers.specs.Parts.{P, Q, diff-self, diff-add, diff-neg, diff-mul, from-parts, to-parts}
-
--- a number times an equation of numbers
-times : (k : ℕ) {m n : ℕ} → m ≡ n → k * m ≡ k * n
-times k h = ap (λ (x : ℕ). k * x) h
+use Rattle.integers.specs.Parts.{P, Q, diff-self, diff-add, diff-neg, diff-mul, times, from-parts, to-parts}
 
 pub *ℤ-distribˡ : (x y z : ℤ) → x *ℤ (y +ℤ z) ≡ x *ℤ y +ℤ x *ℤ z
 *ℤ-distribˡ x y z =

@@ -3,6 +3,9 @@ pub mod Laws
 pub mod Ring
 pub mod Linear
 pub mod Order
-pub mod Sizes
 pub mod Division
 pub mod Decided
+pub mod Within
+pub mod Sizes
+pub mod Tests
+pub mod Arguments

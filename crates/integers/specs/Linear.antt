@@ -1,10 +1,10 @@
 -- Linear arithmetic over ℤ. `Says S` reads a statement S made of ≤ℤ, <ℤ, ≡, →, × and ⊥ as one of ℕ, through the parts of each number,
 -- and `omega` closes that: `lin (search says depth 30 fits 9000) (omega arith)` proves S. The hypotheses stay unbound, as arrows of S.
-use mathlib.Core.Path.{_≡_, refl, sym, _∙_, ap}
+use mathlib.Core.Path.{_≡_}
 use mathlib.Core.List.{List}
-use Prim.Native.Nat.{ℕ, zero, suc, _+_, _*_, _≤_, _<_}
+use Prim.Native.Nat.{ℕ, suc, _+_, _*_, _≤_, _<_}
 use native.Mathlib.Omega.{arith}
-use lib.IntN.{ℤ, pos, negsuc, negℤ, _+ℤ_, _-ℤ_, _*ℤ_}
+use lib.IntN.{ℤ, pos, negsuc, negℤ, _+ℤ_, _*ℤ_}
 use lib.Signed.{_≤ℤ_, _<ℤ_}
 use Rattle.integers.specs.Ring.{Among, here, there}
 use Rattle.integers.specs.Parts.{P, Q, Diff, diff-self, diff-add, diff-neg, diff-times, diff-times-below, from-parts, to-parts, ≤-to, ≤-from, <-to, <-from}

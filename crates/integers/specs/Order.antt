@@ -1,15 +1,15 @@
 -- The order of ℤ: transitivity, cases that compute, signs of sums and products, and certificates for orders that are not linear:
 -- x ≤ y where the gap y − x equals (by `ring`) an expression whose sign `search signs` sees.
-use mathlib.Core.Path.{_≡_, refl, sym, _∙_, subst}
+use mathlib.Core.Path.{_≡_, refl, sym, subst}
 use mathlib.Core.Bool.{Bool, true, false, not}
-use mathlib.Core.List.{List, [], _∷_}
+use mathlib.Core.List.{[], _∷_}
 use mathlib.Core.Logic.{_⊎_, inl, inr, ⊎-elim}
-use Prim.Native.Nat.{ℕ, zero, suc, _+_, _*_, _≤_, _<_}
+use Prim.Native.Nat.{ℕ, suc, _*_, _≤_}
 use native.Mathlib.Omega.{arith}
-use lib.Dec.{T, not-T, T-not}
+use lib.Dec.{T, T-not}
 use lib.IntN.{ℤ, pos, negsuc, negℤ, _+ℤ_, _-ℤ_, _*ℤ_}
 use lib.Signed.{_≤ℤ_, _<ℤ_, leZ, ltZ, leZ-yes, ltZ-yes, ltZ-no, clashℤ}
-use Rattle.integers.specs.Parts.{P, Q, diff-self, diff-mul, diff-neg, diff-add, ≤-to, ≤-from, <-to, <-from}
+use Rattle.integers.specs.Parts.{≤-to, ≤-from}
 use Rattle.integers.specs.Linear.{lin, says}
 use Rattle.integers.specs.Ring.{ring, quote}
 

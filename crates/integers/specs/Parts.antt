@@ -1,11 +1,11 @@
 -- An integer by its two parts: z = P z − Q z, one of them 0. Each law of ℤ becomes one of ℕ, which `omega` closes.
-use mathlib.Core.Path.{_≡_, refl, sym, _∙_, ap, ap₂, subst}
+use mathlib.Core.Path.{_≡_, refl, ap, subst}
 use mathlib.Core.Bool.{Bool, true, false, cond}
 use Prim.Native.Nat.{ℕ, zero, suc, _+_, _*_, _-_, _≤_, _<_}
 use native.Mathlib.Omega.{arith}
-use lib.Dec.{T, ltb, leb, ltb→lt, nltb→le, leb→le, le→leb, lt→ltb, not-T}
-use lib.IntN.{ℤ, pos, negsuc, negℤ, subℕ, _+ℤ_, _-ℤ_, _*ℤ_}
-use lib.Signed.{_≤ℤ_, _<ℤ_, leZ, ltZ}
+use lib.Dec.{T, ltb, ltb→lt, nltb→le, leb→le, le→leb, lt→ltb}
+use lib.IntN.{ℤ, pos, negsuc, negℤ, subℕ, _+ℤ_, _*ℤ_}
+use lib.Signed.{_≤ℤ_, _<ℤ_}
 
 -- the positive part, and the negative
 abbrev pub P : ℤ → ℕ
@@ -49,7 +49,8 @@ diff-mul (pos a) (negsuc b) = record { same = omega (arith, diff-neg (diff-self 
 diff-mul (negsuc a) (pos b) = record { same = omega (arith, diff-neg (diff-self (pos (suc a * b))) .same) }
 diff-mul (negsuc a) (negsuc b) = record { same = omega arith }
 
-times : (k : ℕ) {m n : ℕ} → m ≡ n → k * m ≡ k * n
+-- a number times an equation of numbers
+pub times : (k : ℕ) {m n : ℕ} → m ≡ n → k * m ≡ k * n
 times k h = ap (λ (x : ℕ). k * x) h
 
 pub diff-times : (n : ℕ) {x : ℤ} {p q : ℕ} → Diff x p q → Diff (pos n *ℤ x) (n * p) (n * q)
@@ -59,9 +60,6 @@ pub diff-times-below : (n : ℕ) {x : ℤ} {p q : ℕ} → Diff x p q → Diff (
 diff-times-below n {x} h = record { same = omega (arith, diff-mul (negsuc n) x .same, times (suc n) (h .same)) }
 
 -- ---- equality and order
-
-abbrev pub Equal : ℤ → ℤ → Type 0
-Equal x y = P x + Q y ≡ P y + Q x
 
 pub from-parts : (x y : ℤ) → P x + Q y ≡ P y + Q x → x ≡ y
 from-parts (pos a) (pos b) h = ap pos (omega arith)

@@ -2,11 +2,11 @@
 -- their difference is zero, which is computed. `Quote ρ x` is an expression that denotes x over the variables ρ, and
 -- `search quote` writes it: `ring (a ∷ b ∷ []) (search quote depth 30 fits 9000) tt` proves an equation in a and b.
 use mathlib.Core.Path.{_≡_, refl, sym, _∙_, ap, ap₂}
-use mathlib.Core.Bool.{Bool, true, false, _&&_}
+use mathlib.Core.Bool.{Bool, false, _&&_}
 use mathlib.Core.List.{List, [], _∷_}
-use Prim.Native.Nat.{ℕ, zero, suc}
+use Prim.Native.Nat.{ℕ}
 use lib.Dec.{T, eqb, eqb→eq}
-use lib.IntN.{ℤ, pos, negsuc, negℤ, _+ℤ_, _-ℤ_, _*ℤ_, *ℤ-comm, +ℤ-comm, +ℤ-assoc, +ℤ-idl, +ℤ-idr, *ℤ-zero}
+use lib.IntN.{ℤ, pos, negsuc, negℤ, _+ℤ_, _*ℤ_, *ℤ-comm, +ℤ-comm, +ℤ-assoc, +ℤ-idl, +ℤ-idr, *ℤ-zero}
 use mir.Facts.{and-yes}
 use Rattle.integers.specs.Laws.{*ℤ-distribˡ, *ℤ-distribʳ, *ℤ-assoc, +ℤ-swap, *ℤ-one, *ℤ-minus, equal-of-gap}
 

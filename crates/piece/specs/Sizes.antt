@@ -2,7 +2,7 @@
 use Prim.Native.Nat.{_^_}
 use lib.IntN.{ℤ, pos}
 use lib.Signed.{_<ℤ_}
-use Rattle.integers.specs.Sizes.{Within}
+use Rattle.integers.specs.Within.{Within}
 
 pub record Moderate (Z a b : ℤ) : Type 0 where
   pub up : pos 0 <ℤ Z

@@ -1,6 +1,6 @@
 -- `integers::difference` meets its contract: two 32-bit numbers and their difference fit 64 bits.
 use mathlib.Core.List.{List, [], _∷_}
-use mir.Syntax.{w32, w64}
+use mir.Syntax.{w32}
 use Rattle.integers.specs.Sizes.{Known, held, fits, plain-is, code}
 use Rattle.integers.proofs.difference.Statement.{statement}
 use Rattle.integers.proofs.difference.Tie as tie

@@ -1,7 +1,7 @@
 -- `integers::floor_div` meets its contract: the quotient toward zero is the floor, or one more than it where the remainder is negative.
 use mathlib.Core.Path.{_≡_, sym, _∙_, ap, ap₂, subst, subst₂}
 use mathlib.Core.List.{List, [], _∷_}
-use Prim.Native.Nat.{_<_, suc}
+use Prim.Native.Nat.{_<_}
 use native.Mathlib.Omega.{arith}
 use lib.IntN.{ℤ, pos, negsuc, _-ℤ_}
 use lib.Signed.{_≤ℤ_, _<ℤ_, quotZ, remZ}
@@ -10,7 +10,8 @@ use mir.Val.{SFits, toZ, ofZ}
 use mir.Facts.{toZ-ofZ}
 use Rattle.integers.specs.Parts.{≤-to}
 use Rattle.integers.specs.Division.{floorOf, quot-fits, rem-fits, floor-fits, quot-floor, less-floor, no-floor}
-use Rattle.integers.specs.Sizes.{Known, held, code, passed, failed}
+use Rattle.integers.specs.Sizes.{Known, held}
+use Rattle.integers.specs.Tests.{tests, passed, failed}
 use Rattle.integers.proofs.floor_div.Statement.{statement}
 use Rattle.integers.proofs.floor_div.Tie as tie
 
@@ -18,7 +19,7 @@ abbrev given : tie.Start → List Known
 given s = held w64 (s .args .d) (s .fits .d) ∷ []
 
 positive : (c : tie.Else1) → pos 1 ≤ℤ c .before .args .d
-positive c = failed (given (c .before)) (c .if1 .left) (search code depth 30 fits 9000) tt
+positive c = failed (given (c .before)) (c .if1 .left) (search tests depth 30 fits 9000) tt
 
 positive-bits : {d : ℤ} → pos 1 ≤ℤ d → 0 < ofZ w64 d
 positive-bits {d = pos d} h = omega (arith, ≤-to (pos 1) (pos d) h)
@@ -29,7 +30,7 @@ coded : (s : tie.Start) (R : ℤ → ℤ → Type 0) → R (s .args .n) (s .args
 coded s R h = subst₂ R (sym (toZ-ofZ (s .fits .n))) (sym (toZ-ofZ (s .fits .d))) h
 
 returns : tie.Need-returns
-returns c = no-floor (c .before .args .n) (passed (given (c .before)) (c .if1 .taken) (search code depth 30 fits 9000) tt)
+returns c = no-floor (c .before .args .n) (passed (given (c .before)) (c .if1 .taken) (search tests depth 30 fits 9000) tt)
 
 div-q : tie.Need-div-q
 div-q c =
@@ -58,7 +59,7 @@ one-less : (c : tie.Then2) → let s = c .before .before in quotZ (s .args .n) (
 one-less c =
     let s = c .before .before in
     less-floor (s .args .n) (positive (c .before))
-    (plain s (λ (r : ℤ). r <ℤ pos 0) (passed (remainder s) (c .if2 .taken) (search code depth 30 fits 9000) tt))
+    (plain s (λ (r : ℤ). r <ℤ pos 0) (passed (remainder s) (c .if2 .taken) (search tests depth 30 fits 9000) tt))
 
 sub-result : tie.Need-sub-result
 sub-result c =
@@ -76,7 +77,7 @@ returns-3 c =
     let s = c .before .before in
     quotient (c .before)
     ∙ quot-floor (s .args .n) (positive (c .before))
-    (plain s (λ (r : ℤ). pos 0 ≤ℤ r) (failed (remainder s) (c .if2 .left) (search code depth 30 fits 9000) tt))
+    (plain s (λ (r : ℤ). pos 0 ≤ℤ r) (failed (remainder s) (c .if2 .left) (search tests depth 30 fits 9000) tt))
 
 pub floor-div-spec : {M : Type 1} → statement M
 floor-div-spec = tie.close (tie.spec returns div-q rem-if2 sub-result returns-2 returns-3)

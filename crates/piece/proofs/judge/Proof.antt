@@ -2,14 +2,13 @@
 use borrow.Author.Needs.{needs}
 use borrow.Author.Tests.{not-true, not-false}
 use mathlib.Core.Path.{_≡_, sym, subst, subst₂}
-use mathlib.Core.Bool.{Bool, false, true}
 use lib.IntN.{ℤ}
 use mir.Syntax.{w32, w64}
 use mir.Val.{toZ, ofZ}
 use mir.Facts.{toZ-ofZ}
-use Rattle.integers.specs.Decided.{Decided, told, denied}
+use Rattle.integers.specs.Decided.{told, denied}
 use Rattle.rules.specs.Limits.{WidthWithin, RiseWithin}
-use Rattle.piece.specs.Promise.{Answer, answerOf, Judged, width-refused, rise-refused}
+use Rattle.piece.specs.Promise.{answerOf, Judged, width-refused, rise-refused}
 use Rattle.piece.proofs.judge.Statement.{statement}
 use Rattle.piece.proofs.judge.Tie as tie
 

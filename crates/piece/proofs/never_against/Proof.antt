@@ -6,7 +6,9 @@ use lib.IntN.{ℤ, pos, negℤ, _*ℤ_}
 use lib.Signed.{_≤ℤ_, _<ℤ_, clashℤ}
 use Rattle.integers.specs.Decided.{holds, fails, decided-by}
 use Rattle.integers.specs.Linear.{lin, says}
-use Rattle.integers.specs.Sizes.{Known, known, Within, within, within-high, fits, code, passed, failed}
+use Rattle.integers.specs.Within.{Within, within, within-high}
+use Rattle.integers.specs.Sizes.{Known, known, fits, code}
+use Rattle.integers.specs.Tests.{tests, passed, failed}
 use Rattle.cubic.specs.Slope.{over}
 use Rattle.cubic.specs.Never.{start-not-against, end-not-against, start-below-four, end-below-four}
 use Rattle.cubic.specs.Test.{line, oval, short-accepts, in-oval}
@@ -24,19 +26,19 @@ given s =
 -- ---- what each test says where it failed
 
 start-up : (c : tie.Else1) → pos 0 ≤ℤ c .before .args .a
-start-up c = failed (given (c .before)) (c .if1 .left) (search code depth 30 fits 9000) tt
+start-up c = failed (given (c .before)) (c .if1 .left) (search tests depth 30 fits 9000) tt
 
 end-up : (c : tie.Else2) → pos 0 ≤ℤ c .before .before .args .b
-end-up c = failed (given (c .before .before)) (c .if2 .left) (search code depth 30 fits 9000) tt
+end-up c = failed (given (c .before .before)) (c .if2 .left) (search tests depth 30 fits 9000) tt
 
 above : (c : tie.Else3) → let s = c .before .before .before .args in pos 0 <ℤ over (s .rise) (s .a) (s .b)
-above c = failed (given (c .before .before .before)) (c .if3 .left) (search code depth 30 fits 9000) tt
+above c = failed (given (c .before .before .before)) (c .if3 .left) (search tests depth 30 fits 9000) tt
 
 start-low : (c : tie.Else4) → let s = c .before .before .before .before .args in s .a ≤ℤ (pos 4 *ℤ s .rise)
-start-low c = failed (given (c .before .before .before .before)) (c .if4 .left) (search code depth 30 fits 9000) tt
+start-low c = failed (given (c .before .before .before .before)) (c .if4 .left) (search tests depth 30 fits 9000) tt
 
 end-low : (c : tie.Else5) → let s = c .before .before .before .before .before .args in s .b ≤ℤ (pos 4 *ℤ s .rise)
-end-low c = failed (given (c .before .before .before .before .before)) (c .if5 .left) (search code depth 30 fits 9000) tt
+end-low c = failed (given (c .before .before .before .before .before)) (c .if5 .left) (search tests depth 30 fits 9000) tt
 
 -- not above 4Z the products fit
 low : (Z x : ℤ) → Within (2 ^ 28) Z → pos 0 ≤ℤ x → x ≤ℤ (pos 4 *ℤ Z) → Within (2 ^ 30) x
@@ -57,11 +59,11 @@ lower c =
 
 returns : tie.Need-returns
 returns c =
-    fails (λ f. clashℤ (passed (given (c .before)) (c .if1 .taken) (search code depth 30 fits 9000) tt) (start-not-against f))
+    fails (λ f. clashℤ (passed (given (c .before)) (c .if1 .taken) (search tests depth 30 fits 9000) tt) (start-not-against f))
 
 returns-2 : tie.Need-returns-2
 returns-2 c =
-    fails (λ f. clashℤ (passed (given (c .before .before)) (c .if2 .taken) (search code depth 30 fits 9000) tt) (end-not-against f))
+    fails (λ f. clashℤ (passed (given (c .before .before)) (c .if2 .taken) (search tests depth 30 fits 9000) tt) (end-not-against f))
 
 add-over : tie.Need-add-over
 add-over c = fits (given (c .before .before)) (search code depth 30 fits 9000) tt
@@ -77,7 +79,7 @@ returns-3 c =
     holds
     (short-accepts
     (line (start-up (c .before .before)) (end-up (c .before))
-    (passed (given (c .before .before .before)) (c .if3 .taken) (search code depth 30 fits 9000) tt)))
+    (passed (given (c .before .before .before)) (c .if3 .taken) (search tests depth 30 fits 9000) tt)))
 
 mul-if4 : tie.Need-mul-if4
 mul-if4 c = fits (given (c .before .before .before)) (search code depth 30 fits 9000) tt
@@ -85,7 +87,7 @@ mul-if4 c = fits (given (c .before .before .before)) (search code depth 30 fits 
 returns-4 : tie.Need-returns-4
 returns-4 c =
     let s = c .before .before .before .before in
-    fails (λ f. clashℤ (passed (given s) (c .if4 .taken) (search code depth 30 fits 9000) tt) (start-below-four (s .pre .up) f))
+    fails (λ f. clashℤ (passed (given s) (c .if4 .taken) (search tests depth 30 fits 9000) tt) (start-below-four (s .pre .up) f))
 
 mul-if5 : tie.Need-mul-if5
 mul-if5 c = fits (given (c .before .before .before .before)) (search code depth 30 fits 9000) tt
@@ -93,7 +95,7 @@ mul-if5 c = fits (given (c .before .before .before .before)) (search code depth 
 returns-5 : tie.Need-returns-5
 returns-5 c =
     let s = c .before .before .before .before .before in
-    fails (λ f. clashℤ (passed (given s) (c .if5 .taken) (search code depth 30 fits 9000) tt) (end-below-four (s .pre .up) f))
+    fails (λ f. clashℤ (passed (given s) (c .if5 .taken) (search tests depth 30 fits 9000) tt) (end-below-four (s .pre .up) f))
 
 mul-result : tie.Need-mul-result
 mul-result c = fits (lower c) (search code depth 30 fits 9000) tt
@@ -105,8 +107,8 @@ returns-6 : tie.Need-returns-6
 returns-6 c =
     let o = above (c .before .before) in
     decided-by _
-    (λ e. short-accepts (oval (start-up (c .before .before .before .before)) (end-up (c .before .before .before)) o (passed (lower c) e (search code depth 30 fits 9000) tt)))
-    (λ e f. clashℤ (failed (lower c) e (search code depth 30 fits 9000) tt) (in-oval f o))
+    (λ e. short-accepts (oval (start-up (c .before .before .before .before)) (end-up (c .before .before .before)) o (passed (lower c) e (search tests depth 30 fits 9000) tt)))
+    (λ e f. clashℤ (failed (lower c) e (search tests depth 30 fits 9000) tt) (in-oval f o))
 
 pub never-against-spec : {M : Type 1} → statement M
 never-against-spec =

@@ -3,12 +3,15 @@ use mathlib.Core.Path.{_≡_, sym, subst}
 use mathlib.Core.List.{List, [], _∷_}
 use native.Mathlib.Omega.{arith}
 use lib.IntN.{ℤ, pos, negℤ, _*ℤ_}
-use lib.Signed.{_≤ℤ_, _<ℤ_, leZ-yes}
-use mir.Syntax.{w32, w64}
+use lib.Signed.{_<ℤ_, leZ-yes}
+use mir.Syntax.{w32}
 use Rattle.integers.specs.Decided.{told, denied}
 use Rattle.integers.specs.Linear.{lin, says}
 use Rattle.integers.specs.Order.{≤ℤ-trans, ≤ℤ-antisym}
-use Rattle.integers.specs.Sizes.{Known, known, held, within, fits, sized, plain-is, plainly, as-coded, code, codes, bits, passed, failed, zero-yes, zero-no}
+use Rattle.integers.specs.Within.{within}
+use Rattle.integers.specs.Sizes.{Known, known, held, fits, sized, plain-is, code}
+use Rattle.integers.specs.Tests.{tests, bits, passed, failed, zero-yes, zero-no}
+use Rattle.integers.specs.Arguments.{plainly, as-coded, arguments}
 use Rattle.cubic.specs.Piece.{NeverAgainst}
 use Rattle.cubic.specs.Monotone.{monotone-rising, monotone-falling, monotone-level}
 use Rattle.piece.specs.Promise.{bent}
@@ -45,7 +48,7 @@ mul-b c = fits (given c) (search code depth 30 fits 9000) tt
 -- ---- a rise
 
 up : (c : tie.Then1) → pos 0 <ℤ c .before .args .z
-up c = passed (given (c .before)) (c .if1 .taken) (search code depth 30 fits 9000) tt
+up c = passed (given (c .before)) (c .if1 .taken) (search tests depth 30 fits 9000) tt
 
 never-against-requires : tie.Need-never-against-requires
 never-against-requires c κs =
@@ -66,7 +69,7 @@ returns c =
     let s = p .before in
     is-rising (s .pre .0) (s .pre .1) (up p)
     (monotone-rising (up p)
-    (plainly (given s) NeverAgainst (told (c .before .never-against .ensures) (c .if2 .taken)) (search codes depth 30 fits 9000) tt))
+    (plainly (given s) NeverAgainst (told (c .before .never-against .ensures) (c .if2 .taken)) (search arguments depth 30 fits 9000) tt))
 
 returns-2 : tie.Need-returns-2
 returns-2 c =
@@ -74,12 +77,12 @@ returns-2 c =
     let s = p .before in
     bent (s .pre .0) (s .pre .1)
     (λ m. denied (c .before .never-against .ensures) (c .if2 .left)
-    (as-coded (given s) NeverAgainst (search codes depth 30 fits 9000) tt (m .rising (up p))))
+    (as-coded (given s) NeverAgainst (search arguments depth 30 fits 9000) tt (m .rising (up p))))
 
 -- ---- a fall
 
 down : (c : tie.Then3) → c .before .before .args .z <ℤ pos 0
-down c = passed (given (c .before .before)) (c .if3 .taken) (search code depth 30 fits 9000) tt
+down c = passed (given (c .before .before)) (c .if3 .taken) (search tests depth 30 fits 9000) tt
 
 sub-never-against : tie.Need-sub-never-against
 sub-never-against c = fits (given (c .before .before)) (search code depth 30 fits 9000) tt
@@ -109,7 +112,7 @@ returns-3 c =
     let s = p .before .before in
     is-falling (s .pre .0) (s .pre .1) (down p)
     (monotone-falling (down p)
-    (plainly (given s) NeverAgainst (told (c .before .never-against2 .ensures) (c .if4 .taken)) (search codes depth 30 fits 9000) tt))
+    (plainly (given s) NeverAgainst (told (c .before .never-against2 .ensures) (c .if4 .taken)) (search arguments depth 30 fits 9000) tt))
 
 returns-4 : tie.Need-returns-4
 returns-4 c =
@@ -117,15 +120,15 @@ returns-4 c =
     let s = p .before .before in
     bent (s .pre .0) (s .pre .1)
     (λ m. denied (c .before .never-against2 .ensures) (c .if4 .left)
-    (as-coded (given s) NeverAgainst (search codes depth 30 fits 9000) tt (m .falling (down p))))
+    (as-coded (given s) NeverAgainst (search arguments depth 30 fits 9000) tt (m .falling (down p))))
 
 -- ---- neither
 
 level : (c : tie.Else3) → c .before .before .args .z ≡ pos 0
 level c =
     let Γ = given (c .before .before) in
-    ≤ℤ-antisym (failed Γ (c .before .if1 .left) (search code depth 30 fits 9000) tt)
-    (failed Γ (c .if3 .left) (search code depth 30 fits 9000) tt)
+    ≤ℤ-antisym (failed Γ (c .before .if1 .left) (search tests depth 30 fits 9000) tt)
+    (failed Γ (c .if3 .left) (search tests depth 30 fits 9000) tt)
 
 returns-5 : tie.Need-returns-5
 returns-5 c =

@@ -1,0 +1,69 @@
+-- What a test in code says of the plain values: `passed` and `failed` for < and ≤, `zero-yes` and `zero-no` for a comparison with 0.
+use mathlib.Core.Path.{_≡_, sym, _∙_, ap, ap₂, subst}
+use mathlib.Core.Bool.{Bool, true, false, not, _&&_}
+use mathlib.Core.List.{List}
+use Prim.Native.Nat.{ℕ, _^_}
+use lib.Dec.{T, ltb}
+use lib.IntN.{ℤ, pos}
+use lib.Signed.{_≤ℤ_, _<ℤ_, leZ, ltZ, leZ-yes, ltZ-yes, ltZ-no}
+use mir.Syntax.{w32, w64}
+use mir.Val.{toZ, ofZ}
+use mir.Facts.{and-yes}
+use Rattle.integers.specs.Order.{leZ-no}
+use Rattle.integers.specs.Sizes.{Known, Code, bits64, bits32, code, plain, size, sound, plain-is}
+
+-- a test of two expressions
+pub data Test (Γ : List Known) : Bool → Type 0 where
+  less : {x y : ℤ} → Code Γ x → Code Γ y → Test Γ (ltZ x y)
+  at-most : {x y : ℤ} → Code Γ x → Code Γ y → Test Γ (leZ x y)
+
+pub ruleset tests = (less, at-most, code)
+
+abbrev sound-test : {Γ : List Known} {b : Bool} → Test Γ b → Bool
+sound-test (less c d) = sound c && sound d
+sound-test (at-most c d) = sound c && sound d
+
+-- what a test says where it is passed, and where it is failed
+abbrev pub Passed : {Γ : List Known} {b : Bool} → Test Γ b → Type 0
+Passed (less c d) = plain c <ℤ plain d
+Passed (at-most c d) = plain c ≤ℤ plain d
+
+abbrev pub Failed : {Γ : List Known} {b : Bool} → Test Γ b → Type 0
+Failed (less c d) = plain d ≤ℤ plain c
+Failed (at-most c d) = plain d <ℤ plain c
+
+plain-test : (test : ℤ → ℤ → Bool) {Γ : List Known} {x y : ℤ} (c : Code Γ x) (d : Code Γ y) → T (sound c && sound d) → test x y ≡ test (plain c) (plain d)
+plain-test test c d t =
+    let b = and-yes (sound c) (sound d) t in ap₂ test (plain-is c (b .0)) (plain-is d (b .1))
+
+pub passed : (Γ : List Known) {b : Bool} → b ≡ true → (t : Test Γ b) → T (sound-test t) → Passed t
+passed Γ e (less c d) t = ltZ-yes (subst T (sym e ∙ plain-test ltZ c d t) tt)
+passed Γ e (at-most c d) t = leZ-yes (subst T (sym e ∙ plain-test leZ c d t) tt)
+
+pub failed : (Γ : List Known) {b : Bool} → b ≡ false → (t : Test Γ b) → T (sound-test t) → Failed t
+failed Γ e (less c d) t = ltZ-no (subst (λ (b : Bool). T (not b)) (sym e ∙ plain-test ltZ c d t) tt)
+failed Γ e (at-most c d) t = leZ-no (subst (λ (b : Bool). T (not b)) (sym e ∙ plain-test leZ c d t) tt)
+
+-- ---- a test of a number against 0 compares its bits
+
+pub data Bits (Γ : List Known) : ℕ → Type 0 where
+  of64 : {x : ℤ} → Code Γ x → Bits Γ (ofZ w64 x)
+  of32 : {x : ℤ} → Code Γ x → Bits Γ (ofZ w32 x)
+
+abbrev pub whole : {Γ : List Known} {n : ℕ} → Bits Γ n → ℤ
+whole (of64 c) = plain c
+whole (of32 c) = plain c
+
+abbrev sound-bits : {Γ : List Known} {n : ℕ} → Bits Γ n → Bool
+sound-bits (of64 c) = sound (bits64 c)
+sound-bits (of32 c) = sound (bits32 c)
+
+pub zero-yes : (Γ : List Known) {n : ℕ} → n ≡ 0 → (b : Bits Γ n) → T (sound-bits b) → whole b ≡ pos 0
+zero-yes Γ e (of64 c) t = sym (plain-is (bits64 c) t) ∙ ap (toZ w64) e
+zero-yes Γ e (of32 c) t = sym (plain-is (bits32 c) t) ∙ ap (toZ w32) e
+
+pub zero-no : (Γ : List Known) {n : ℕ} → (n ≡ 0 → ⊥) → (b : Bits Γ n) → T (sound-bits b) → whole b ≡ pos 0 → ⊥
+zero-no Γ f (of64 c) t e = f (ap (ofZ w64) (plain-is c (and-yes (sound c) (ltb (size c) (2 ^ 63)) t .0) ∙ e))
+zero-no Γ f (of32 c) t e = f (ap (ofZ w32) (plain-is c (and-yes (sound c) (ltb (size c) (2 ^ 31)) t .0) ∙ e))
+
+pub ruleset bits = (of64, of32, code)
