@@ -10,7 +10,7 @@ use native.Mathlib.Nat.{le-refl, le-trans, lt-of-le-of-lt, mul-le-mul}
 use lib.Dec.{T, ltb, leb, ltb→lt, leb→le}
 use lib.IntN.{ℤ, pos, negsuc, negℤ, natAbs, _+ℤ_, _-ℤ_, _*ℤ_, +ℤ-idl}
 use lib.Signed.{mag, natAbs-le}
-use mir.Syntax.{Width, w32, w64}
+use mir.Syntax.{Width}
 use mir.Val.{SFits, toZ, ofZ, hbits}
 use mir.Facts.{toZ-ofZ, and-yes}
 use Rattle.integers.specs.Within.{Within, natAbs-plus, natAbs-minus, natAbs-product}
@@ -37,13 +37,11 @@ pub data Code (Γ : List Known) : ℤ → Type 0 where
   product : {x y : ℤ} → Code Γ x → Code Γ y → Code Γ (x *ℤ y)
   minus : {x : ℤ} → Code Γ x → Code Γ (negℤ x)
   opposite : {x : ℤ} → Code Γ x → Code Γ (pos 0 -ℤ x)
-  bits64 : {x : ℤ} → Code Γ x → Code Γ (toZ w64 (ofZ w64 x))
-  bits32 : {x : ℤ} → Code Γ x → Code Γ (toZ w32 (ofZ w32 x))
-  held64 : {x : ℤ} → Held w64 x Γ → Code Γ (toZ w64 (ofZ w64 x))
-  held32 : {x : ℤ} → Held w32 x Γ → Code Γ (toZ w32 (ofZ w32 x))
+  layer : (w : Width) {x : ℤ} → Code Γ x → Code Γ (toZ w (ofZ w x))
+  whole : (w : Width) {x : ℤ} → Held w x Γ → Code Γ (toZ w (ofZ w x))
   listed : {x : ℤ} → Listed x Γ → Code Γ x
 
-pub ruleset code = (number, below, opposite, plus, product, minus, held64, held32, bits64, bits32, listed, first, later, first-held, later-held)
+pub ruleset code = (number, below, opposite, plus, product, minus, whole, layer, listed, first, later, first-held, later-held)
 
 -- without the layers
 abbrev pub plain : {Γ : List Known} {x : ℤ} → Code Γ x → ℤ
@@ -53,10 +51,8 @@ plain (plus c d) = plain c +ℤ plain d
 plain (product c d) = plain c *ℤ plain d
 plain (minus c) = negℤ (plain c)
 plain (opposite c) = negℤ (plain c)
-plain (bits64 c) = plain c
-plain (bits32 c) = plain c
-plain (held64 {x} v) = x
-plain (held32 {x} v) = x
+plain (layer w c) = plain c
+plain (whole w {x} v) = x
 plain (listed {x} v) = x
 
 abbrev pub bound : {x : ℤ} {Γ : List Known} → Listed x Γ → ℕ
@@ -70,10 +66,8 @@ size (plus c d) = size c + size d
 size (product c d) = size c * size d
 size (minus c) = size c
 size (opposite c) = size c
-size (bits64 c) = size c
-size (bits32 c) = size c
-size (held64 v) = 2 ^ 63
-size (held32 v) = 2 ^ 31
+size (layer w c) = size c
+size (whole w v) = 2 ^ hbits w
 size (listed v) = bound v
 
 -- every layer holds what is put into it
@@ -84,10 +78,8 @@ sound (plus c d) = sound c && sound d
 sound (product c d) = sound c && sound d
 sound (minus c) = sound c
 sound (opposite c) = sound c
-sound (bits64 c) = sound c && ltb (size c) (2 ^ 63)
-sound (bits32 c) = sound c && ltb (size c) (2 ^ 31)
-sound (held64 v) = true
-sound (held32 v) = true
+sound (layer w c) = sound c && ltb (size c) (2 ^ hbits w)
+sound (whole w v) = true
 sound (listed v) = true
 
 -- ---- what it computes is so
@@ -112,10 +104,8 @@ size-holds (product c d) =
     subst (λ (n : ℕ). n ≤ size c * size d) (sym (natAbs-product (plain c) (plain d))) (mul-le-mul (size-holds c) (size-holds d))
 size-holds (opposite c) = subst (λ (n : ℕ). n ≤ size c) (sym (natAbs-minus (plain c))) (size-holds c)
 size-holds (minus c) = subst (λ (n : ℕ). n ≤ size c) (sym (natAbs-minus (plain c))) (size-holds c)
-size-holds (bits64 c) = size-holds c
-size-holds (bits32 c) = size-holds c
-size-holds (held64 {x} v) = natAbs-le x (held-fits v .sfits)
-size-holds (held32 {x} v) = natAbs-le x (held-fits v .sfits)
+size-holds (layer w c) = size-holds c
+size-holds (whole w {x} v) = natAbs-le x (held-fits v .sfits)
 size-holds (listed v) = bound-holds v
 
 small-fits : (w : Width) {Γ : List Known} {x : ℤ} (c : Code Γ x) → T (ltb (size c) (2 ^ hbits w)) → SFits w (plain c)
@@ -123,8 +113,8 @@ small-fits w c t =
     record { sfits = lt-of-le-of-lt (le-trans (mag-natAbs (plain c)) (size-holds c)) (ltb→lt (size c) (2 ^ hbits w) t) }
 
 -- a layer that holds its number changes nothing
-layer : (w : Width) {x y : ℤ} → x ≡ y → SFits w y → toZ w (ofZ w x) ≡ y
-layer w e h = ap (λ (v : ℤ). toZ w (ofZ w v)) e ∙ toZ-ofZ h
+same : (w : Width) {x y : ℤ} → x ≡ y → SFits w y → toZ w (ofZ w x) ≡ y
+same w e h = ap (λ (v : ℤ). toZ w (ofZ w v)) e ∙ toZ-ofZ h
 
 pub plain-is : {Γ : List Known} {x : ℤ} (c : Code Γ x) → T (sound c) → x ≡ plain c
 plain-is (number n) t = refl
@@ -133,10 +123,9 @@ plain-is (plus c d) t = let b = and-yes (sound c) (sound d) t in ap₂ _+ℤ_ (p
 plain-is (product c d) t = let b = and-yes (sound c) (sound d) t in ap₂ _*ℤ_ (plain-is c (b .0)) (plain-is d (b .1))
 plain-is (minus c) t = ap negℤ (plain-is c t)
 plain-is (opposite {x} c) t = +ℤ-idl (negℤ x) ∙ ap negℤ (plain-is c t)
-plain-is (bits64 c) t = let b = and-yes (sound c) (ltb (size c) (2 ^ 63)) t in layer w64 (plain-is c (b .0)) (small-fits w64 c (b .1))
-plain-is (bits32 c) t = let b = and-yes (sound c) (ltb (size c) (2 ^ 31)) t in layer w32 (plain-is c (b .0)) (small-fits w32 c (b .1))
-plain-is (held64 v) t = toZ-ofZ (held-fits v)
-plain-is (held32 v) t = toZ-ofZ (held-fits v)
+plain-is (layer w c) t =
+    let b = and-yes (sound c) (ltb (size c) (2 ^ hbits w)) t in same w (plain-is c (b .0)) (small-fits w c (b .1))
+plain-is (whole w v) t = toZ-ofZ (held-fits v)
 plain-is (listed v) t = refl
 
 -- ---- what a proof cites

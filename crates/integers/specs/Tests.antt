@@ -6,11 +6,12 @@ use Prim.Native.Nat.{ℕ, _^_}
 use lib.Dec.{T, ltb}
 use lib.IntN.{ℤ, pos}
 use lib.Signed.{_≤ℤ_, _<ℤ_, leZ, ltZ, leZ-yes, ltZ-yes, ltZ-no}
-use mir.Syntax.{w32, w64}
-use mir.Val.{toZ, ofZ}
-use mir.Facts.{and-yes}
+use mir.Syntax.{Width}
+use mir.Val.{toZ, ofZ, hbits}
+use mir.Facts.{toZ-pos, and-yes}
+use lib.Pow.{pow-pos}
 use Rattle.integers.specs.Order.{leZ-no}
-use Rattle.integers.specs.Sizes.{Known, Code, bits64, bits32, code, plain, size, sound, plain-is}
+use Rattle.integers.specs.Sizes.{Known, Code, layer, code, plain, size, sound, plain-is}
 
 -- a test of two expressions
 pub data Test (Γ : List Known) : Bool → Type 0 where
@@ -47,23 +48,18 @@ failed Γ e (at-most c d) t = leZ-no (subst (λ (b : Bool). T (not b)) (sym e �
 -- ---- a test of a number against 0 compares its bits
 
 pub data Bits (Γ : List Known) : ℕ → Type 0 where
-  of64 : {x : ℤ} → Code Γ x → Bits Γ (ofZ w64 x)
-  of32 : {x : ℤ} → Code Γ x → Bits Γ (ofZ w32 x)
+  bits : (w : Width) {x : ℤ} → Code Γ x → Bits Γ (ofZ w x)
 
-abbrev pub whole : {Γ : List Known} {n : ℕ} → Bits Γ n → ℤ
-whole (of64 c) = plain c
-whole (of32 c) = plain c
+abbrev pub value : {Γ : List Known} {n : ℕ} → Bits Γ n → ℤ
+value (bits w c) = plain c
 
 abbrev sound-bits : {Γ : List Known} {n : ℕ} → Bits Γ n → Bool
-sound-bits (of64 c) = sound (bits64 c)
-sound-bits (of32 c) = sound (bits32 c)
+sound-bits (bits w c) = sound (layer w c)
 
-pub zero-yes : (Γ : List Known) {n : ℕ} → n ≡ 0 → (b : Bits Γ n) → T (sound-bits b) → whole b ≡ pos 0
-zero-yes Γ e (of64 c) t = sym (plain-is (bits64 c) t) ∙ ap (toZ w64) e
-zero-yes Γ e (of32 c) t = sym (plain-is (bits32 c) t) ∙ ap (toZ w32) e
+pub zero-yes : (Γ : List Known) {n : ℕ} → n ≡ 0 → (b : Bits Γ n) → T (sound-bits b) → value b ≡ pos 0
+zero-yes Γ e (bits w c) t = sym (plain-is (layer w c) t) ∙ ap (toZ w) e ∙ toZ-pos w (pow-pos (hbits w))
 
-pub zero-no : (Γ : List Known) {n : ℕ} → (n ≡ 0 → ⊥) → (b : Bits Γ n) → T (sound-bits b) → whole b ≡ pos 0 → ⊥
-zero-no Γ f (of64 c) t e = f (ap (ofZ w64) (plain-is c (and-yes (sound c) (ltb (size c) (2 ^ 63)) t .0) ∙ e))
-zero-no Γ f (of32 c) t e = f (ap (ofZ w32) (plain-is c (and-yes (sound c) (ltb (size c) (2 ^ 31)) t .0) ∙ e))
+pub zero-no : (Γ : List Known) {n : ℕ} → (n ≡ 0 → ⊥) → (b : Bits Γ n) → T (sound-bits b) → value b ≡ pos 0 → ⊥
+zero-no Γ f (bits w c) t e = f (ap (ofZ w) (plain-is c (and-yes (sound c) (ltb (size c) (2 ^ hbits w)) t .0) ∙ e))
 
-pub ruleset bits = (of64, of32, code)
+pub ruleset zeros = (bits, code)

@@ -10,7 +10,7 @@ use Rattle.integers.specs.Linear.{lin, says}
 use Rattle.integers.specs.Order.{≤ℤ-trans, ≤ℤ-antisym}
 use Rattle.integers.specs.Within.{within}
 use Rattle.integers.specs.Sizes.{Known, known, held, fits, sized, plain-is, code}
-use Rattle.integers.specs.Tests.{tests, bits, passed, failed, zero-yes, zero-no}
+use Rattle.integers.specs.Tests.{tests, zeros, passed, failed, zero-yes, zero-no}
 use Rattle.integers.specs.Arguments.{plainly, as-coded, arguments}
 use Rattle.cubic.specs.Piece.{NeverAgainst}
 use Rattle.cubic.specs.Monotone.{monotone-rising, monotone-falling, monotone-level}
@@ -136,22 +136,22 @@ returns-5 c =
     let s = p .before .before in
     is-flat (s .pre .0) (s .pre .1) (level p)
     (monotone-level (level p)
-    (zero-yes (given s) (c .before .if5 .taken) (search bits depth 30 fits 9000) tt)
-    (zero-yes (given s) (c .if6 .taken) (search bits depth 30 fits 9000) tt))
+    (zero-yes (given s) (c .before .if5 .taken) (search zeros depth 30 fits 9000) tt)
+    (zero-yes (given s) (c .if6 .taken) (search zeros depth 30 fits 9000) tt))
 
 returns-6 : tie.Need-returns-6
 returns-6 c =
     let p = c .before .before in
     let s = p .before .before in
     bent (s .pre .0) (s .pre .1)
-    (λ m. zero-no (given s) (c .if6 .left) (search bits depth 30 fits 9000) tt (m .level (level p) .1))
+    (λ m. zero-no (given s) (c .if6 .left) (search zeros depth 30 fits 9000) tt (m .level (level p) .1))
 
 returns-7 : tie.Need-returns-7
 returns-7 c =
     let p = c .before in
     let s = p .before .before in
     bent (s .pre .0) (s .pre .1)
-    (λ m. zero-no (given s) (c .if5 .left) (search bits depth 30 fits 9000) tt (m .level (level p) .0))
+    (λ m. zero-no (given s) (c .if5 .left) (search zeros depth 30 fits 9000) tt (m .level (level p) .0))
 
 pub shape-spec : {M : Type 1} → statement M
 shape-spec =
