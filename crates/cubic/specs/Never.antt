@@ -2,12 +2,14 @@
 use mathlib.Core.Path.{_≡_, sym}
 use mathlib.Core.List.{[], _∷_}
 use mathlib.Core.Logic.{⊎-elim}
+use Prim.Native.Nat.{ℕ, _*_}
 use native.Mathlib.Omega.{arith}
 use lib.Dec.{lit≤}
 use lib.IntN.{ℤ, pos, negsuc, negℤ, _+ℤ_, _-ℤ_, _*ℤ_}
 use lib.Signed.{_≤ℤ_, _<ℤ_, ltZ-yes}
 use Rattle.integers.specs.Linear.{lin, says}
 use Rattle.integers.specs.Order.{0≤-as, 0≤-number, 0≤-square, 0≤-gap, 0<-gap, 0≤-cancel, 0<-product, ≤ℤ-or-<ℤ, pos-≤, ≤-pos}
+use Rattle.integers.specs.Within.{Within, within, within-high}
 use Rattle.cubic.specs.Piece.{slopeAt, NeverAgainst}
 use Rattle.cubic.specs.Slope.{at-start, at-end, at-turn, ellipse, steep, turn, fourfold, mirrored}
 
@@ -82,18 +84,31 @@ start-below-four {Z} {a} {b} z₀ f =
 pub end-below-four : {Z a b : ℤ} → pos 0 <ℤ Z → NeverAgainst Z a b → b ≤ℤ (pos 4 *ℤ Z)
 end-below-four z₀ f = start-below-four z₀ (mirror f)
 
--- ---- so the cubic's coefficients are small
+-- ---- so the cubic's coefficients are small, for a rise within M
 
-pub record SmallCoefficients (Z a b : ℤ) : Type 0 where
-  pub third-low : negℤ (pos 2 *ℤ Z) ≤ℤ (a +ℤ b -ℤ pos 2 *ℤ Z)
-  pub third-high : (a +ℤ b -ℤ pos 2 *ℤ Z) ≤ℤ (pos 6 *ℤ Z)
-  pub second-low : negℤ (pos 9 *ℤ Z) ≤ℤ (pos 3 *ℤ Z -ℤ pos 2 *ℤ a -ℤ b)
-  pub second-high : (pos 3 *ℤ Z -ℤ pos 2 *ℤ a -ℤ b) ≤ℤ (pos 3 *ℤ Z)
+pub record SmallCoefficients (M : ℕ) (Z a b : ℤ) : Type 0 where
+  pub third : Within (6 * M) (a +ℤ b -ℤ pos 2 *ℤ Z)
+  pub second : Within (9 * M) (pos 3 *ℤ Z -ℤ pos 2 *ℤ a -ℤ b)
+  pub start : Within (4 * M) a
+  pub end : Within (4 * M) b
 
-pub small-coefficients : {Z a b : ℤ} → pos 0 <ℤ Z → NeverAgainst Z a b → SmallCoefficients Z a b
-small-coefficients {Z} {a} {b} z₀ f =
-    let s = bounds Z a b (start-not-against f) (end-not-against f) (start-below-four z₀ f) (end-below-four z₀ f) in
-    record { third-low = s .0; third-high = s .1 .0; second-low = s .1 .1 .0; second-high = s .1 .1 .1 }
+pub small-coefficients : {M : ℕ} {Z a b : ℤ} → pos 0 <ℤ Z → NeverAgainst Z a b → Within M Z → SmallCoefficients M Z a b
+small-coefficients {M} {Z} {a} {b} z₀ f zM =
+    let a₀ = start-not-against f in
+    let b₀ = end-not-against f in
+    let a₄ = start-below-four z₀ f in
+    let b₄ = end-below-four z₀ f in
+    let p = thirds Z a b M (within-high zM) a₀ b₀ a₄ b₄ in
+    let q = seconds Z a b M (within-high zM) a₀ b₀ a₄ b₄ in
+    let r = ends Z a M (within-high zM) a₀ a₄ in
+    let s = ends Z b M (within-high zM) b₀ b₄ in
+    record { third = within _ _ (p .0) (p .1); second = within _ _ (q .0) (q .1); start = within _ _ (r .0) (r .1); end = within _ _ (s .0) (s .1) }
   where
-    bounds : (Z a b : ℤ) → pos 0 ≤ℤ a → pos 0 ≤ℤ b → a ≤ℤ (pos 4 *ℤ Z) → b ≤ℤ (pos 4 *ℤ Z) → (negℤ (pos 2 *ℤ Z) ≤ℤ (a +ℤ b -ℤ pos 2 *ℤ Z)) × (((a +ℤ b -ℤ pos 2 *ℤ Z) ≤ℤ (pos 6 *ℤ Z)) × ((negℤ (pos 9 *ℤ Z) ≤ℤ (pos 3 *ℤ Z -ℤ pos 2 *ℤ a -ℤ b)) × ((pos 3 *ℤ Z -ℤ pos 2 *ℤ a -ℤ b) ≤ℤ (pos 3 *ℤ Z))))
-    bounds Z a b = lin (Z ∷ a ∷ b ∷ []) (search says depth 30 fits 9000) (omega arith)
+    thirds : (Z a b : ℤ) (M : ℕ) → Z ≤ℤ pos M → pos 0 ≤ℤ a → pos 0 ≤ℤ b → a ≤ℤ (pos 4 *ℤ Z) → b ≤ℤ (pos 4 *ℤ Z) → (negℤ (pos (6 * M)) ≤ℤ (a +ℤ b -ℤ pos 2 *ℤ Z)) × ((a +ℤ b -ℤ pos 2 *ℤ Z) ≤ℤ pos (6 * M))
+    thirds Z a b M = lin (Z ∷ a ∷ b ∷ []) (search says depth 30 fits 9000) (omega arith)
+
+    seconds : (Z a b : ℤ) (M : ℕ) → Z ≤ℤ pos M → pos 0 ≤ℤ a → pos 0 ≤ℤ b → a ≤ℤ (pos 4 *ℤ Z) → b ≤ℤ (pos 4 *ℤ Z) → (negℤ (pos (9 * M)) ≤ℤ (pos 3 *ℤ Z -ℤ pos 2 *ℤ a -ℤ b)) × ((pos 3 *ℤ Z -ℤ pos 2 *ℤ a -ℤ b) ≤ℤ pos (9 * M))
+    seconds Z a b M = lin (Z ∷ a ∷ b ∷ []) (search says depth 30 fits 9000) (omega arith)
+
+    ends : (Z x : ℤ) (M : ℕ) → Z ≤ℤ pos M → pos 0 ≤ℤ x → x ≤ℤ (pos 4 *ℤ Z) → (negℤ (pos (4 * M)) ≤ℤ x) × (x ≤ℤ pos (4 * M))
+    ends Z x M = lin (Z ∷ x ∷ []) (search says depth 30 fits 9000) (omega arith)

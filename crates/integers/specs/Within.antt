@@ -1,8 +1,9 @@
 -- The magnitude of an integer, of sums and of products; a number between −M and M.
-use mathlib.Core.Path.{_≡_, refl}
+use mathlib.Core.Path.{_≡_, refl, sym, subst}
 use mathlib.Core.Logic.{_⊎_, inl, inr, ⊎-elim}
 use Prim.Native.Nat.{ℕ, zero, suc, _+_, _*_, _≤_}
 use native.Mathlib.Omega.{arith}
+use native.Mathlib.Nat.{mul-le-mul}
 use lib.IntN.{ℤ, pos, negsuc, negℤ, natAbs, _+ℤ_, _*ℤ_}
 use lib.Signed.{_≤ℤ_}
 use Rattle.integers.specs.Parts.{P, Q, diff-add, diff-self, diff-neg, ≤-to, ≤-from}
@@ -44,3 +45,10 @@ within M (negsuc n) l h =
 pub within-high : {M : ℕ} {x : ℤ} → Within M x → x ≤ℤ pos M
 within-high {M} {x = pos n} h = ≤-from (pos n) (pos M) (omega (arith, h .size))
 within-high {M} {x = negsuc n} h = ≤-from (negsuc n) (pos M) (omega arith)
+
+pub within-plus : {M N : ℕ} {x y : ℤ} → Within M x → Within N y → Within (M + N) (x +ℤ y)
+within-plus {x = x} {y = y} h k = record { size = omega (arith, natAbs-plus x y, h .size, k .size) }
+
+pub within-product : {M N : ℕ} {x y : ℤ} → Within M x → Within N y → Within (M * N) (x *ℤ y)
+within-product {M} {N} {x} {y} h k =
+    record { size = subst (λ (n : ℕ). n ≤ M * N) (sym (natAbs-product x y)) (mul-le-mul (h .size) (k .size)) }
