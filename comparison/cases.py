@@ -65,9 +65,9 @@ def figures():
         (2, 1, 384, 384),
     ):
         yield piece(*numbers)
-    for width in (0, 1, WIDEST, WIDEST + 1):
+    for width in (0, 1, 1024, 1025):
         yield piece(width, 1, 0, 0)
-    for rise in (LARGEST_RISE, -LARGEST_RISE, LARGEST_RISE + 1, -LARGEST_RISE - 1):
+    for rise in (1048576, -1048576, 1048577, -1048577):
         yield piece(1, rise, 0, 0)
 
 
@@ -338,6 +338,19 @@ def long_lines():
     yield good
     yield b" " * LONGEST_LINE + good
     yield good
+    # A CR that ends the line does not count, and any other does: also where it is the last byte but one that a reader keeps.
+    for line in (good.ljust(LONGEST_LINE), good.ljust(LONGEST_LINE + 1)):
+        for tail in (b"\r", b"\r\r", b"\r more"):
+            yield line + tail
+            yield good
+    yield b"#".ljust(LONGEST_LINE, b"=")
+    yield b" " * LONGEST_LINE
+    yield good
+
+
+def many_lines():
+    """So many lines, and so many bytes, that a count or a number of reads that stops is seen."""
+    yield b"\n" * 70000 + b"piece"
 
 
 GROUPS = (
@@ -363,6 +376,7 @@ GROUPS = (
     ("Numbers at the ends of 32 and 64 bits and past them.", ends_of_sizes),
     ("Several faults in one line: the first is named.", first_fault),
     ("Lines of 65536 bytes, and longer ones.", long_lines),
+    ("A fault after many lines.", many_lines),
 )
 
 

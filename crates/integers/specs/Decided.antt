@@ -19,3 +19,10 @@ told (fails f) e = absurd (subst (λ (b : Bool). T (not b)) e tt)
 pub denied : {A : Type 0} {b : Bool} → Decided A b → b ≡ false → A → ⊥
 denied (holds a) e = absurd (subst T e tt)
 denied (fails f) e = f
+
+-- two answers to one question are the same
+pub one-decision : {A : Type 0} {b c : Bool} → Decided A b → Decided A c → b ≡ c
+one-decision (holds a) (holds d) = refl
+one-decision (holds a) (fails g) = absurd (g a)
+one-decision (fails f) (holds d) = absurd (f d)
+one-decision (fails f) (fails g) = refl

@@ -1,5 +1,5 @@
 -- Linear arithmetic over ℤ. `Says S` reads a statement S made of ≤ℤ, <ℤ, ≡, →, × and ⊥ as one of ℕ, through the parts of each number,
--- and `omega` closes that: `lin (search says depth 30 fits 9000) (omega arith)` proves S. The hypotheses stay unbound, as arrows of S.
+-- and `omega` closes that: `lin ρ (search says depth 30 fits 9000) (omega arith)` proves S over the unknowns ρ. The hypotheses stay unbound, as arrows of S.
 use mathlib.Core.Path.{_≡_}
 use mathlib.Core.List.{List}
 use Prim.Native.Nat.{ℕ, suc, _+_, _*_, _≤_, _<_}

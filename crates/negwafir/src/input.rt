@@ -29,19 +29,29 @@ pub fn serve() {
     }
 }
 
-// Reads once, and answers the lines that end in what came.
+// Reads once, and answers the lines that end in what came. A read that fails is said on standard error and ends the run: what is held of a line is
+// then no line.
 fn read_some(line: &mut [u8], lines: Lines) -> Lines {
     let mut buffer = io::large_buffer();
     let got = libc::read(libc::STDIN_FILENO, &mut buffer);
+    if got < 0 {
+        os::fail(b"negwafir: standard input");
+        return closed(lines.number, 0);
+    }
     let n = io::count(got, &buffer);
     if n == 0 {
-        return Lines {
-            held: lines.held,
-            number: lines.number,
-            open: false,
-        };
+        return closed(lines.number, lines.held);
     }
     split(line, &buffer[..n], lines)
+}
+
+// No more may come.
+fn closed(number: u64, held: usize) -> Lines {
+    Lines {
+        held,
+        number,
+        open: false,
+    }
 }
 
 // Takes a chunk apart at its line ends.
@@ -56,22 +66,24 @@ fn split(line: &mut [u8], chunk: &[u8], before: Lines) -> Lines {
     lines
 }
 
-// Puts a piece of a line behind what is held, and answers the line where the piece is its last.
+// Puts a piece of a line behind what is held, and answers the line where the piece is its last. Once an answer could not be written nothing
+// more is answered.
 fn gather(line: &mut [u8], piece: &[u8], is_last: bool, lines: Lines) -> Lines {
+    if !lines.open {
+        return lines;
+    }
     let held = words::append(line, lines.held, piece);
-    if is_last {
-        commands::answer(words::part(line, 0, held), lines.number);
-        Lines {
-            held: 0,
-            number: following(lines.number),
-            open: true,
-        }
-    } else {
-        Lines {
+    if !is_last {
+        return Lines {
             held,
             number: lines.number,
             open: true,
-        }
+        };
+    }
+    Lines {
+        held: 0,
+        number: following(lines.number),
+        open: commands::answer(words::part(line, 0, held), lines.number),
     }
 }
 

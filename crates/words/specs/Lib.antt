@@ -8,4 +8,5 @@ pub mod Digits
 pub mod Reading
 pub mod Text
 pub mod Spelling
+pub mod Determined
 pub mod Examples
