@@ -16,7 +16,7 @@ pub fn number_fault(number: u64, k: u64, cause: &[u8]) -> bool {
     let out: &mut [u8] = &mut space;
     let n = opening(out, number);
     let n = words::append(out, n, b"number ");
-    let n = words::append_natural(out, n, k);
+    let n = decimals::append_natural(out, n, k);
     let n = words::append(out, n, b" ");
     let n = words::append(out, n, cause);
     close(out, n)
@@ -45,9 +45,9 @@ fn refused(r: rules::Refusal) -> bool {
     let mut space = [0u8; 128];
     let out: &mut [u8] = &mut space;
     let n = words::append(out, 0, b"refused ");
-    let n = words::append_natural(out, n, r.number as u64);
+    let n = decimals::append_natural(out, n, r.number as u64);
     let n = words::append(out, n, b" at ");
-    let n = words::append_natural(out, n, r.place as u64);
+    let n = decimals::append_natural(out, n, r.place as u64);
     let n = words::append(out, n, b": ");
     let n = cause(out, n, r.number);
     close(out, n)
@@ -65,7 +65,7 @@ fn cause(out: &mut [u8], held: usize, number: u32) -> usize {
 // `? line L: `, with which each fault begins.
 fn opening(out: &mut [u8], number: u64) -> usize {
     let n = words::append(out, 0, b"? line ");
-    let n = words::append_natural(out, n, number);
+    let n = decimals::append_natural(out, n, number);
     words::append(out, n, b": ")
 }
 

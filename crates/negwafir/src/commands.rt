@@ -83,14 +83,14 @@ fn read_wide(line: &[u8], from: usize, number: u64, k: u64) -> Wide {
     let words::Word::At { start, end } = words::next_word(line, from) else {
         return Wide::Fault(true);
     };
-    match words::whole(words::part(line, start, end)) {
-        words::Number::Is(n) => Wide::Is(n, end),
-        words::Number::NotDecimal => Wide::Fault(answers::number_fault(
+    match decimals::whole(words::part(line, start, end)) {
+        decimals::Number::Is(n) => Wide::Is(n, end),
+        decimals::Number::NotDecimal => Wide::Fault(answers::number_fault(
             number,
             k,
             b"is not a whole decimal number",
         )),
-        words::Number::TooLarge => Wide::Fault(answers::number_fault(
+        decimals::Number::TooLarge => Wide::Fault(answers::number_fault(
             number,
             k,
             b"does not fit 64 bits",
@@ -103,14 +103,14 @@ fn read_narrow(line: &[u8], from: usize, number: u64, k: u64) -> Narrow {
     let words::Word::At { start, end } = words::next_word(line, from) else {
         return Narrow::Fault(true);
     };
-    match words::whole32(words::part(line, start, end)) {
-        words::Number32::Is(n) => Narrow::Is(n, end),
-        words::Number32::NotDecimal => Narrow::Fault(answers::number_fault(
+    match decimals::whole32(words::part(line, start, end)) {
+        decimals::Number32::Is(n) => Narrow::Is(n, end),
+        decimals::Number32::NotDecimal => Narrow::Fault(answers::number_fault(
             number,
             k,
             b"is not a whole decimal number",
         )),
-        words::Number32::TooLarge => Narrow::Fault(answers::number_fault(
+        decimals::Number32::TooLarge => Narrow::Fault(answers::number_fault(
             number,
             k,
             b"does not fit 32 bits",

@@ -2,7 +2,7 @@
 use Prim.Native.Nat.{ℕ}
 use mathlib.Core.Path.{_≡_, sym, _∙_, ap, ap₂}
 use mathlib.Core.List.{List, _++_}
-use lib.ListN.{length, take, drop, take-append-drop}
+use lib.ListN.{length, drop, take-append-drop}
 use Rattle.words.specs.Lines.{Appended}
 
 module _ {before more x y : List ℕ} {held r s : ℕ} (p : Appended before held more x r) (q : Appended before held more y s) where

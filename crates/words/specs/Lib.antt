@@ -3,10 +3,5 @@ pub mod Runs
 pub mod Walk
 pub mod Lines
 pub mod Joining
-pub mod Decimal
-pub mod Digits
-pub mod Reading
-pub mod Text
-pub mod Spelling
 pub mod Determined
 pub mod Examples
