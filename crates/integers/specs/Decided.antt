@@ -1,11 +1,8 @@
--- What a function that answers a bool says of a statement: `true` where it holds, `false` where it does not.
+-- How a bool that says whether a statement holds is made and used.
 use mathlib.Core.Path.{_≡_, refl, subst}
 use mathlib.Core.Bool.{Bool, true, false, not}
 use lib.Dec.{T}
-
-pub data Decided (A : Type 0) : Bool → Type 0 where
-  holds : A → Decided A true
-  fails : (A → ⊥) → Decided A false
+use Rattle.integers.specs.Promise.{Decided, holds, fails}
 
 -- by a test that is true where A holds
 pub decided-by : {A : Type 0} (b : Bool) → (b ≡ true → A) → (b ≡ false → A → ⊥) → Decided A b

@@ -8,22 +8,11 @@ use lib.IntN.{ℤ, pos, negsuc, negℤ, _+ℤ_, _-ℤ_, _*ℤ_, *ℤ-comm}
 use lib.Signed.{_≤ℤ_, _<ℤ_, mag, quotZ, remZ, mag-rem, ≤ℤ-refl}
 use mir.Syntax.{Width}
 use mir.Val.{SFits}
+use Rattle.integers.specs.Promise.{Floor, floorOf}
 use Rattle.integers.specs.Ring.{ring, quote}
 use Rattle.integers.specs.Linear.{lin, says}
 use Rattle.integers.specs.Order.{≤ℤ-<ℤ-trans, ≤ℤ-trans, ≤ℤ-antisym, <ℤ-cancel, pos-≤}
 use Rattle.integers.specs.Parts.{≤-from, <-from, <-to, from-parts, diff-neg, diff-add, diff-self}
-
--- q is n/d rounded down: the one whole number with q·d ≤ n < (q + 1)·d
-pub record Floor (n d q : ℤ) : Type 0 where
-  pub low : (q *ℤ d) ≤ℤ n
-  pub high : n <ℤ ((q +ℤ pos 1) *ℤ d)
-
--- n/d rounded down for d > 0, and 0 for any other d
-abbrev pub floorOf : ℤ → ℤ → ℤ
-floorOf n (pos zero) = pos 0
-floorOf (pos n) (pos (suc d)) = pos (n / suc d)
-floorOf (negsuc n) (pos (suc d)) = negsuc (n / suc d)
-floorOf n (negsuc d) = pos 0
 
 -- ---- order
 

@@ -1,3 +1,4 @@
+pub mod Promise
 pub mod Parts
 pub mod Laws
 pub mod Ring

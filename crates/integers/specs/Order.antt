@@ -27,11 +27,6 @@ pub <ℤ→≤ℤ : {x y : ℤ} → x <ℤ y → x ≤ℤ y
 pub ≤ℤ-antisym : {x y : ℤ} → x ≤ℤ y → y ≤ℤ x → x ≡ y
 ≤ℤ-antisym {x} {y} = lin (x ∷ y ∷ []) (search says depth 30 fits 9000) (omega arith)
 
--- between two numbers, both included
-pub record Between (l x h : ℤ) : Type 0 where
-  pub low : l ≤ℤ x
-  pub high : x ≤ℤ h
-
 -- the naturals' order is the same
 pub pos-≤ : {m n : ℕ} → m ≤ n → pos m ≤ℤ pos n
 pos-≤ {m} {n} h = ≤-from (pos m) (pos n) (omega arith)

@@ -1,9 +1,7 @@
 // Signed arithmetic that is what the integers say: no result here is computed from a wrapped number.
 ghost use mathlib.Core.Path.{_≡_};
 ghost use lib.IntN.{_-ℤ_};
-ghost use Rattle.integers.specs.Decided.{Decided};
-ghost use Rattle.integers.specs.Division.{floorOf};
-ghost use Rattle.integers.specs.Order.{Between};
+ghost use Rattle.integers.specs.Promise.{Decided, floorOf, Between};
 
 // The difference of any two 32-bit numbers, right minus left. It is taken in 64 bits, where it always fits.
 pub fn difference(left: i32, right: i32) -> i64

@@ -1,5 +1,5 @@
 // The verdict on one piece: rising, falling, flat or bends, or the refusal of a piece outside the limits.
-ghost use Rattle.integers.specs.Decided.{Decided};
+ghost use Rattle.integers.specs.Promise.{Decided};
 ghost use Rattle.cubic.specs.Piece.{NeverAgainst};
 ghost use Rattle.rules.specs.Limits.{WidthWithin, RiseWithin};
 ghost use Rattle.piece.specs.Promise.{Judged, answerOf};

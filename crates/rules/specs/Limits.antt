@@ -1,6 +1,6 @@
 -- "Numbers that bound everything" of the exact rules, as far as they bound a piece.
 use lib.IntN.{ℤ, pos, negsuc}
-use Rattle.integers.specs.Order.{Between}
+use Rattle.integers.specs.Promise.{Between}
 
 -- "h from 1 to 1,024"
 abbrev pub WidthWithin : ℤ → Type 0

@@ -1,5 +1,5 @@
 // The numbers of the exact rules: the limits of a piece, and how a refusal is answered.
-ghost use Rattle.integers.specs.Decided.{Decided};
+ghost use Rattle.integers.specs.Promise.{Decided};
 ghost use Rattle.rules.specs.Limits.{WidthWithin, RiseWithin};
 
 // A refusal: its number in the exact rules, and the place that it names.

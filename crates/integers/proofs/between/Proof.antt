@@ -2,7 +2,8 @@
 use mathlib.Core.List.{List, [], _∷_}
 use lib.Signed.{clashℤ}
 use mir.Syntax.{w64}
-use Rattle.integers.specs.Decided.{fails, decided-by}
+use Rattle.integers.specs.Promise.{fails}
+use Rattle.integers.specs.Decided.{decided-by}
 use Rattle.integers.specs.Sizes.{Known, held}
 use Rattle.integers.specs.Tests.{tests, passed, failed}
 use Rattle.integers.proofs.between.Statement.{statement}

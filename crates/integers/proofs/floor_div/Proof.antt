@@ -9,7 +9,8 @@ use mir.Syntax.{w64}
 use mir.Val.{SFits, toZ, ofZ}
 use mir.Facts.{toZ-ofZ}
 use Rattle.integers.specs.Parts.{≤-to}
-use Rattle.integers.specs.Division.{floorOf, quot-fits, rem-fits, floor-fits, quot-floor, less-floor, no-floor}
+use Rattle.integers.specs.Promise.{floorOf}
+use Rattle.integers.specs.Division.{quot-fits, rem-fits, floor-fits, quot-floor, less-floor, no-floor}
 use Rattle.integers.specs.Sizes.{Known, held}
 use Rattle.integers.specs.Tests.{tests, passed, failed}
 use Rattle.integers.proofs.floor_div.Statement.{statement}

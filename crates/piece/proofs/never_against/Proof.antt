@@ -5,7 +5,8 @@ use native.Mathlib.Omega.{arith}
 use lib.Dec.{T, leb, leb→le}
 use lib.IntN.{ℤ, pos, negℤ, _-ℤ_, _*ℤ_}
 use lib.Signed.{_≤ℤ_, _<ℤ_, clashℤ}
-use Rattle.integers.specs.Decided.{holds, fails, decided-by}
+use Rattle.integers.specs.Promise.{holds, fails}
+use Rattle.integers.specs.Decided.{decided-by}
 use Rattle.integers.specs.Ring.{ring, quote}
 use Rattle.integers.specs.Order.{≤ℤ-trans, ≤ℤ-<ℤ-trans, <ℤ→≤ℤ, *ℤ-mono, 0≤-number, pos-≤, at-most, signs}
 use Rattle.integers.specs.Linear.{lin, says}

@@ -3,7 +3,7 @@ use borrow.Author.Needs.{needs}
 use mathlib.Core.Path.{subst}
 use lib.IntN.{ℤ}
 use mir.Facts.{toZ-ofZ}
-use Rattle.integers.specs.Decided.{Decided}
+use Rattle.integers.specs.Promise.{Decided}
 use Rattle.rules.specs.Limits.{RiseWithin}
 use Rattle.rules.proofs.rise_within.Statement.{statement}
 use Rattle.rules.proofs.rise_within.Tie as tie

@@ -1,0 +1,27 @@
+-- The definitions that the contracts of this crate cite. Whoever believes its promises believes this file.
+use mathlib.Core.Bool.{Bool, true, false}
+use Prim.Native.Nat.{zero, suc, _/_}
+use lib.IntN.{ℤ, pos, negsuc, _+ℤ_, _*ℤ_}
+use lib.Signed.{_≤ℤ_, _<ℤ_}
+
+-- x lies between two numbers, both included.
+pub record Between (l x h : ℤ) : Type 0 where
+  pub low : l ≤ℤ x
+  pub high : x ≤ℤ h
+
+-- A function's bool says of a statement whether it holds.
+pub data Decided (A : Type 0) : Bool → Type 0 where
+  holds : A → Decided A true
+  fails : (A → ⊥) → Decided A false
+
+-- q is n/d rounded down: the one whole number with q·d ≤ n < (q + 1)·d.
+pub record Floor (n d q : ℤ) : Type 0 where
+  pub low : (q *ℤ d) ≤ℤ n
+  pub high : n <ℤ ((q +ℤ pos 1) *ℤ d)
+
+-- n/d rounded down for d > 0 (`floor-is` in Division.antt says that it is so), and 0 for any other d.
+abbrev pub floorOf : ℤ → ℤ → ℤ
+floorOf n (pos zero) = pos 0
+floorOf (pos n) (pos (suc d)) = pos (n / suc d)
+floorOf (negsuc n) (pos (suc d)) = negsuc (n / suc d)
+floorOf n (negsuc d) = pos 0
