@@ -9,14 +9,14 @@ use lib.Signed.{_≤ℤ_, _<ℤ_}
 use Rattle.integers.specs.Linear.{lin, says}
 use Rattle.integers.specs.Order.{0≤-number, ≤ℤ-or-<ℤ, pos-≤}
 use Rattle.cubic.specs.Piece.{NeverAgainst}
-use Rattle.cubic.specs.Slope.{below-line, in-ellipse, ellipse, ellipse-over, over, steep, turn}
+use Rattle.cubic.specs.Slope.{below-line, in-ellipse, ellipse, ellipse-over, over, Inside, steep, turn}
 use Rattle.cubic.specs.Never.{start-not-against, end-not-against, least-inside, inside-ellipse}
 
 -- ---- the short test: not above the line a + b = 3Z, or above it and in the ellipse
 
 pub data Short (Z a b : ℤ) : Type 0 where
   line : pos 0 ≤ℤ a → pos 0 ≤ℤ b → over Z a b ≤ℤ pos 0 → Short Z a b
-  oval : pos 0 ≤ℤ a → pos 0 ≤ℤ b → pos 0 <ℤ over Z a b → (over Z a b *ℤ over Z a b) ≤ℤ (a *ℤ b) → Short Z a b
+  oval : pos 0 ≤ℤ a → pos 0 ≤ℤ b → pos 0 <ℤ over Z a b → Inside (over Z a b) a b → Short Z a b
 
 pub short-accepts : {Z a b : ℤ} → Short Z a b → NeverAgainst Z a b
 short-accepts {Z} {a} {b} (line a₀ b₀ s) =
@@ -25,7 +25,7 @@ short-accepts {Z} {a} {b} (line a₀ b₀ s) =
     under : (Z a b : ℤ) → over Z a b ≤ℤ pos 0 → (a +ℤ b) ≤ℤ (pos 3 *ℤ Z)
     under Z a b = lin (Z ∷ a ∷ b ∷ []) (search says depth 30 fits 9000) (omega arith)
 short-accepts {Z} {a} {b} (oval a₀ b₀ s d) =
-    record { at = λ k q q₁ k₁. in-ellipse Z a b (pos k) (pos q) (0≤-number k) (pos-≤ k₁) a₀ b₀ (curved Z a b a₀ b₀ s) (inner _ _ _ (ellipse-over Z a b) d) }
+    record { at = λ k q q₁ k₁. in-ellipse Z a b (pos k) (pos q) (0≤-number k) (pos-≤ k₁) a₀ b₀ (curved Z a b a₀ b₀ s) (inner _ _ _ (ellipse-over Z a b) (d .inside)) }
   where
     curved : (Z a b : ℤ) → pos 0 ≤ℤ a → pos 0 ≤ℤ b → pos 0 <ℤ over Z a b → pos 0 <ℤ steep Z a b
     curved Z a b = lin (Z ∷ a ∷ b ∷ []) (search says depth 30 fits 9000) (omega arith)
@@ -37,8 +37,8 @@ short-accepts {Z} {a} {b} (oval a₀ b₀ s d) =
 outer : (d s p : ℤ) → d ≡ s -ℤ p → d ≤ℤ pos 0 → s ≤ℤ p
 outer d s p = lin (d ∷ s ∷ p ∷ []) (search says depth 30 fits 9000) (omega arith)
 
-pub in-oval : {Z a b : ℤ} → NeverAgainst Z a b → pos 0 <ℤ over Z a b → (over Z a b *ℤ over Z a b) ≤ℤ (a *ℤ b)
-in-oval {Z} {a} {b} f s = outer _ _ _ (ellipse-over Z a b) (inside-ellipse f (above Z a b s))
+pub in-oval : {Z a b : ℤ} → NeverAgainst Z a b → pos 0 <ℤ over Z a b → Inside (over Z a b) a b
+in-oval {Z} {a} {b} f s = record { inside = outer _ _ _ (ellipse-over Z a b) (inside-ellipse f (above Z a b s)) }
   where
     above : (Z a b : ℤ) → pos 0 <ℤ over Z a b → (pos 3 *ℤ Z) <ℤ (a +ℤ b)
     above Z a b = lin (Z ∷ a ∷ b ∷ []) (search says depth 30 fits 9000) (omega arith)
@@ -78,7 +78,7 @@ fritsch-carlson-accepts {Z} {a} {b} z₀ t = short-accepts (by (t .one))
     by (left h) = line (t .start) (t .end) (under-left Z a b (t .start) h)
     by (right h) = line (t .start) (t .end) (under-right Z a b (t .end) h)
     by (inside h) =
-        ⊎-elim (λ s. line (t .start) (t .end) s) (λ s. oval (t .start) (t .end) s (outer _ _ _ (ellipse-over Z a b) h))
+        ⊎-elim (λ s. line (t .start) (t .end) s) (λ s. oval (t .start) (t .end) s (record { inside = outer _ _ _ (ellipse-over Z a b) h }))
         (≤ℤ-or-<ℤ (over Z a b) (pos 0))
 
 pub fritsch-carlson-complete : {Z a b : ℤ} → NeverAgainst Z a b → FritschCarlson Z a b

@@ -3,7 +3,8 @@ use mathlib.Core.Path.{_≡_, refl, sym, subst}
 use mathlib.Core.Logic.{_⊎_, inl, inr, ⊎-elim}
 use Prim.Native.Nat.{ℕ, zero, suc, _+_, _*_, _≤_}
 use native.Mathlib.Omega.{arith}
-use native.Mathlib.Nat.{mul-le-mul}
+use native.Mathlib.Nat.{mul-le-mul, le-trans}
+use lib.Dec.{T, leb, leb→le}
 use lib.IntN.{ℤ, pos, negsuc, negℤ, natAbs, _+ℤ_, _*ℤ_}
 use lib.Signed.{_≤ℤ_}
 use Rattle.integers.specs.Parts.{P, Q, diff-add, diff-self, diff-neg, ≤-to, ≤-from}
@@ -45,6 +46,9 @@ within M (negsuc n) l h =
 pub within-high : {M : ℕ} {x : ℤ} → Within M x → x ≤ℤ pos M
 within-high {M} {x = pos n} h = ≤-from (pos n) (pos M) (omega (arith, h .size))
 within-high {M} {x = negsuc n} h = ≤-from (negsuc n) (pos M) (omega arith)
+
+pub within-more : {M N : ℕ} {x : ℤ} → T (leb M N) → Within M x → Within N x
+within-more {M} {N} t h = record { size = le-trans (h .size) (leb→le M N t) }
 
 pub within-plus : {M N : ℕ} {x y : ℤ} → Within M x → Within N y → Within (M + N) (x +ℤ y)
 within-plus {x = x} {y = y} h k = record { size = omega (arith, natAbs-plus x y, h .size, k .size) }

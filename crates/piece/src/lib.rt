@@ -1,9 +1,10 @@
 // The verdict on one piece: rising, falling, flat or bends, or the refusal of a piece outside the limits.
 ghost use Rattle.integers.specs.Promise.{Decided};
 ghost use Rattle.cubic.specs.Piece.{NeverAgainst};
+ghost use Rattle.cubic.specs.Slope.{Inside};
 ghost use Rattle.rules.specs.Limits.{WidthWithin, RiseWithin};
 ghost use Rattle.piece.specs.Promise.{Judged, answerOf};
-ghost use Rattle.piece.specs.Sizes.{Moderate};
+ghost use Rattle.piece.specs.Sizes.{Moderate, Low};
 use rules::Refusal;
 
 // What is answered of one piece.
@@ -13,6 +14,14 @@ pub enum Verdict {
     Flat,
     Bends,
     Refused(Refusal),
+}
+
+// Fritsch and Carlson's last test, from what a and b have over 3Z. The callers' sizes leave room for both products.
+fn in_ellipse(over: i64, a: i64, b: i64) -> bool
+    requires { ⌜ Low over a b ⌝ }
+    ensures { λ r. ⌜ Decided (Inside over a b) r ⌝ }
+{
+    over * over <= a * b
 }
 
 // Whether the cubic of a rise never slopes against it, by Fritsch and Carlson's test in its short form: a, b ≥ 0, and not above the line
@@ -37,7 +46,7 @@ fn never_against(rise: i64, a: i64, b: i64) -> bool
     if 4 * rise < b {
         return false;
     }
-    over * over <= a * b
+    in_ellipse(over, a, b)
 }
 
 // The verdict on a piece within the limits: the test for its rise's sign, or level throughout where it has none.

@@ -1,21 +1,23 @@
 -- `piece::never_against` meets its contract: each way through the code is one case of the short test, and each step fits.
-use Prim.Native.Nat.{ℕ, _*_, _^_}
+use Prim.Native.Nat.{ℕ, _+_, _*_, _^_}
 use mathlib.Core.List.{List, [], _∷_}
 use native.Mathlib.Omega.{arith}
 use lib.Dec.{T, leb, leb→le}
 use lib.IntN.{ℤ, pos, negℤ, _-ℤ_, _*ℤ_}
 use lib.Signed.{_≤ℤ_, _<ℤ_, clashℤ}
 use Rattle.integers.specs.Promise.{holds, fails}
-use Rattle.integers.specs.Decided.{decided-by}
+use Rattle.integers.specs.Decided.{decided-by, told, denied}
 use Rattle.integers.specs.Ring.{ring, quote}
 use Rattle.integers.specs.Order.{≤ℤ-trans, ≤ℤ-<ℤ-trans, <ℤ→≤ℤ, *ℤ-mono, 0≤-number, pos-≤, at-most, signs}
 use Rattle.integers.specs.Linear.{lin, says}
-use Rattle.integers.specs.Within.{Within, within, within-high}
+use Rattle.integers.specs.Within.{Within, within, within-high, within-more}
 use Rattle.integers.specs.Sizes.{Known, known, fits, code}
 use Rattle.integers.specs.Tests.{tests, passed, failed}
-use Rattle.cubic.specs.Slope.{over}
+use Rattle.integers.specs.Arguments.{arguments, plainly, as-coded}
+use Rattle.cubic.specs.Slope.{over, Inside}
 use Rattle.cubic.specs.Never.{start-not-against, end-not-against, start-below-four, end-below-four}
 use Rattle.cubic.specs.Test.{line, oval, short-accepts, in-oval}
+use Rattle.piece.specs.Sizes.{Low}
 use Rattle.piece.proofs.never_against.Statement.{statement}
 use Rattle.piece.proofs.never_against.Tie as tie
 
@@ -33,6 +35,13 @@ at-most-times k {Z} {x} h l u =
   where
     below-zero : (n : ℕ) → negℤ (pos n) ≤ℤ pos 0
     below-zero n = lin [] (search says depth 30 fits 9000) (omega arith)
+
+-- what two numbers have over 3Z, where that is above 0, is at most their sum
+over-size : {M N : ℕ} {Z a b : ℤ} → pos 0 <ℤ Z → pos 0 <ℤ over Z a b → Within M a → Within N b → Within (M + N) (over Z a b)
+over-size {M} {N} {Z} {a} {b} z₀ o h k = let p = ends Z a b M N z₀ o (within-high h) (within-high k) in within _ _ (p .0) (p .1)
+  where
+    ends : (Z a b : ℤ) (M N : ℕ) → pos 0 <ℤ Z → pos 0 <ℤ over Z a b → a ≤ℤ pos M → b ≤ℤ pos N → (negℤ (pos (M + N)) ≤ℤ over Z a b) × (over Z a b ≤ℤ pos (M + N))
+    ends Z a b M N = lin (Z ∷ a ∷ b ∷ []) (search says depth 30 fits 9000) (omega arith)
 
 -- what the limits say of the arguments
 abbrev given : tie.Start → List Known
@@ -97,28 +106,28 @@ returns-5 c =
     let s = c .before .before .before .before .before in
     fails (λ f. beyond _ tt (s .pre .up) (passed (given s) (c .if5 .taken) (search tests depth 30 fits 9000) tt) (end-below-four (s .pre .up) f))
 
-abbrev left : tie.Else5 → List Known
-left c =
+-- ---- the ellipse, asked of sizes whose products fit
+
+in-ellipse-requires : tie.Need-in-ellipse-requires
+in-ellipse-requires c κs =
     let s = c .before .before .before .before .before in
-    known (s .args .rise) (2 ^ 28) (s .pre .rise)
-    ∷ known (s .args .a) _ (at-most-times _ (s .pre .rise) (start-up (c .before .before .before .before)) (failed (given s) (c .before .if4 .left) (search tests depth 30 fits 9000) tt))
-    ∷ known (s .args .b) _ (at-most-times _ (s .pre .rise) (end-up (c .before .before .before)) (failed (given s) (c .if5 .left) (search tests depth 30 fits 9000) tt))
-    ∷ []
-
--- ---- the ellipse
-
-mul-result : tie.Need-mul-result
-mul-result c = fits (left c) (search code depth 30 fits 9000) tt
-
-mul-result-2 : tie.Need-mul-result-2
-mul-result-2 c = fits (left c) (search code depth 30 fits 9000) tt
+    let a = at-most-times _ (s .pre .rise) (start-up (c .before .before .before .before)) (failed (given s) (c .before .if4 .left) (search tests depth 30 fits 9000) tt) in
+    let b = at-most-times _ (s .pre .rise) (end-up (c .before .before .before)) (failed (given s) (c .if5 .left) (search tests depth 30 fits 9000) tt) in
+    as-coded (given s) Low (search arguments depth 30 fits 9000) tt
+    (record {
+      over = within-more tt (over-size (s .pre .up) (above (c .before .before)) a b);
+      start = within-more tt a;
+      end = within-more tt b;
+    })
 
 returns-6 : tie.Need-returns-6
 returns-6 c =
-    let o = above (c .before .before) in
+    let p = c .before in
+    let s = p .before .before .before .before .before in
+    let o = above (p .before .before) in
     decided-by _
-    (λ e. short-accepts (oval (start-up (c .before .before .before .before)) (end-up (c .before .before .before)) o (passed (left c) e (search tests depth 30 fits 9000) tt)))
-    (λ e f. clashℤ (failed (left c) e (search tests depth 30 fits 9000) tt) (in-oval f o))
+    (λ e. short-accepts (oval (start-up (p .before .before .before .before)) (end-up (p .before .before .before)) o (plainly (given s) Inside (told (c .in-ellipse .ensures) e) (search arguments depth 30 fits 9000) tt)))
+    (λ e f. denied (c .in-ellipse .ensures) e (as-coded (given s) Inside (search arguments depth 30 fits 9000) tt (in-oval f o)))
 
 pub never-against-spec : {M : Type 1} → statement M
 never-against-spec =
@@ -134,6 +143,5 @@ never-against-spec =
     returns-4
     mul-if5
     returns-5
-    mul-result
-    mul-result-2
+    in-ellipse-requires
     returns-6)
