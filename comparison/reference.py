@@ -1,8 +1,10 @@
 """The reference: an independent workbench that reads commands and writes answers, byte for byte.
 
 It shares nothing with the proved program. It decides by document 01's definition, from the exact
-least value of the quadratic over the piece, and not by the test of Fritsch and Carlson.
+least value of the quadratic over the piece, and not by the test of Fritsch and Carlson. Slopes are
+built with fractions, which are exact, and rounded at the very end.
 """
+import math
 import re
 import sys
 from collections import namedtuple
@@ -11,9 +13,14 @@ from fractions import Fraction
 UNIT = 256  # slopes are in 1/256 of a value per count
 WIDEST = 1024
 LARGEST_RISE = 1048576
+MOST_POINTS = 1024
 LONGEST_LINE = 65536
+LONGEST_ROW = 2048  # numbers in one list: more than MOST_POINTS, so that a build can refuse them
+LISTS = (b"knots", b"values", b"slopes")
 
 CAUSES = {
+    1: "the lists' lengths differ",
+    2: "fewer than 2 or more than 1024 points",
     3: "a width is not in 1 to 1024",
     4: "a rise is outside its limits",
 }
@@ -52,6 +59,55 @@ def refusal(number, place):
     return f"refused {number} at {place}: {CAUSES[number]}"
 
 
+def is_width(width):
+    return 1 <= width <= WIDEST
+
+
+def is_rise(rise):
+    return -LARGEST_RISE <= rise <= LARGEST_RISE
+
+
+def differences(numbers):
+    """Each number less the one before it: the widths of knots, the rises of values. They never wrap."""
+    return [right - left for left, right in zip(numbers, numbers[1:])]
+
+
+def build_refusal(knots, values, slopes):
+    """The first cause to refuse a build of these lists, or None. All the widths are asked before any rise."""
+    if not len(knots) == len(values) == len(slopes):
+        return refusal(1, 0)
+    if not 2 <= len(knots) <= MOST_POINTS:
+        return refusal(2, 0)
+    for number, steps, is_taken in ((3, differences(knots), is_width), (4, differences(values), is_rise)):
+        for place, step in enumerate(steps):
+            if not is_taken(step):
+                return refusal(number, place)
+    return None
+
+
+def end_slope(width, rise):
+    """The slope at an end of the table: that of the end piece, rounded toward zero."""
+    return math.trunc(Fraction(UNIT * rise, width))
+
+
+def inner_slope(h1, z1, h2, z2):
+    """The slope at a point between two pieces, by document 01's line: rounded first, and then given its sign."""
+    if z1 * z2 <= 0:
+        return 0
+    size1, size2 = abs(z1), abs(z2)
+    numerator = 768 * (h1 + h2) * size1 * size2
+    denominator = (h1 + 2 * h2) * h1 * size2 + (2 * h1 + h2) * h2 * size1
+    size = math.floor(Fraction(numerator, denominator))
+    return size if z1 > 0 else -size
+
+
+def built_slopes(knots, values):
+    """The slopes of a table that is not refused, one for each point."""
+    pieces = list(zip(differences(knots), differences(values)))
+    inner = [inner_slope(*left, *right) for left, right in zip(pieces, pieces[1:])]
+    return [end_slope(*pieces[0]), *inner, end_slope(*pieces[-1])]
+
+
 # ---- the language
 
 
@@ -85,20 +141,53 @@ def read_number(word, place, bits):
     return number
 
 
+def count_words(words, fewest, most):
+    """Asked before the words themselves are looked at."""
+    if len(words) < fewest:
+        raise Fault("too few words")
+    if len(words) > most:
+        raise Fault("too many words")
+
+
 def read_numbers(words, bits):
     """The numbers that the words write, one for each entry of BITS."""
-    if len(words) < len(bits):
-        raise Fault("too few words")
-    if len(words) > len(bits):
-        raise Fault("too many words")
     return [read_number(word, place, size) for place, (word, size) in enumerate(zip(words, bits), 1)]
 
 
+def numbers(*bits):
+    """A reader of a command's words: a number for each entry of BITS, and none for numbers()."""
+
+    def read(words):
+        count_words(words, len(bits), len(bits))
+        return read_numbers(words, bits)
+
+    return read
+
+
+def row_of(name):
+    """A reader of a command's words: all the numbers for the list of this name."""
+
+    def read(words):
+        count_words(words, 0, LONGEST_ROW)
+        return name, read_numbers(words, [32] * len(words))
+
+    return read
+
+
+def list_name(words):
+    """A reader of a command's words: the name of a list."""
+    count_words(words, 1, 1)
+    if words[0] not in LISTS:
+        raise Fault("no such list")
+    return words
+
+
 class Workbench:
-    """Where a fitter stands: the lines read so far, and the answer to the next one."""
+    """Where a fitter stands: the lines read so far, the three lists, and the answer to the next line."""
 
     def __init__(self):
         self.line_number = 0
+        self.lists = {name: [] for name in LISTS}
 
     def answer(self, line):
         """The answer to the next line, or None if it gives nothing."""
@@ -117,20 +206,40 @@ class Workbench:
         if words[0] not in COMMANDS:
             raise Fault("no such command")
         command = COMMANDS[words[0]]
-        return command.run(self, *read_numbers(words[1:], command.bits))
+        return command.run(self, *command.read(words[1:]))
 
     def piece(self, width, rise, left_slope, right_slope):
-        if not 1 <= width <= WIDEST:
+        if not is_width(width):
             return refusal(3, 0)
-        if not -LARGEST_RISE <= rise <= LARGEST_RISE:
+        if not is_rise(rise):
             return refusal(4, 0)
         return verdict(width, rise, left_slope, right_slope)
 
+    def put(self, name, row):
+        self.lists[name] = row
+        return f"ok {len(row)}"
 
-# Each command: what it runs, and the bits of each number after its name.
-Command = namedtuple("Command", "run bits")
+    def show(self, name):
+        return " ".join(str(number) for number in self.lists[name])
+
+    def build(self):
+        knots, values, slopes = (self.lists[name] for name in LISTS)
+        refused = build_refusal(knots, values, slopes)
+        if refused is not None:
+            return refused
+        self.lists[b"slopes"] = built_slopes(knots, values)
+        return "ok"
+
+
+# Each command: what it runs, and the reader of the words after its name, which gives the arguments.
+Command = namedtuple("Command", "run read")
 COMMANDS = {
-    b"piece": Command(Workbench.piece, (64, 64, 32, 32)),
+    b"piece": Command(Workbench.piece, numbers(64, 64, 32, 32)),
+    b"knots": Command(Workbench.put, row_of(b"knots")),
+    b"values": Command(Workbench.put, row_of(b"values")),
+    b"slopes": Command(Workbench.put, row_of(b"slopes")),
+    b"show": Command(Workbench.show, list_name),
+    b"build": Command(Workbench.build, numbers()),
 }
 
 

@@ -1,7 +1,11 @@
 """The reference held against what was worked out without it: the figures of document 01, the
-definition tried at every fraction on small pieces, and lines whose answers were written by hand.
+definition tried at every fraction on small pieces, slopes found in other ways, and lines whose answers
+were written by hand.
 """
-from reference import UNIT, answers_to, verdict
+from fractions import Fraction
+from itertools import product
+
+from reference import UNIT, answers_to, built_slopes, end_slope, inner_slope, verdict
 
 # Copied from document 01, "Figures to hold against it".
 FIGURES = (
@@ -17,6 +21,15 @@ FIGURES = (
     (1, 0, 1, -1, "bends"),
     (1, -1, -768, -768, "falling"),
     (2, 1, 384, 384, "rising"),
+)
+
+# Copied from there too: knots, values, and the slopes built. The last table is the fourth with point 0 changed.
+BUILT_FIGURES = (
+    ((0, 1, 2), (0, 1, 4), [256, 384, 768]),
+    ((0, 1, 3), (0, 1, 2), [256, 177, 128]),
+    ((0, 3), (0, -10), [-853, -853]),
+    ((0, 1, 2, 3), (0, 1, 4, 7), [256, 384, 768, 768]),
+    ((0, 1, 2, 3), (-2, 1, 4, 7), [768, 768, 768, 768]),
 )
 
 LINES = (
@@ -43,6 +56,100 @@ LINES = (
     (b"piece 1 0 0 " + b"0" * (65537 - 12), b"? line 1: the line is longer than 65536 bytes\n"),
     (b"#" * 65536 + b"\n" + b"#" * 65537, b"? line 2: the line is longer than 65536 bytes\n"),
     (b" " * 65536 + b"\n" + b" " * 65537, b"? line 2: the line is longer than 65536 bytes\n"),
+)
+
+# Lines that come after these three, and the answers that come after their three.
+SET_TABLE = b"knots 0 1 2\nvalues 0 1 4\nslopes 7 8 9\n"
+TABLE_LINES = (
+    (b"", b""),
+    (b"show knots\nshow values\n show\tslopes \r\n", b"0 1 2\n0 1 4\n7 8 9\n"),
+    (b"build\nshow slopes\nshow knots\nshow values", b"ok\n256 384 768\n0 1 2\n0 1 4\n"),
+    (b"slopes -2147483648 2147483647 0\nbuild\nbuild\nshow slopes", b"ok 3\nok\nok\n256 384 768\n"),
+    (b"knots 0 3\nvalues 0 -10\nslopes 0 0\nbuild\nshow slopes", b"ok 2\nok 2\nok 2\nok\n-853 -853\n"),
+    (b"piece 1 1 256 256\npiece 0 1 0 0\nshow slopes", b"rising\nrefused 3 at 0: a width is not in 1 to 1024\n7 8 9\n"),
+    # The lists' faults, each alone.
+    (b"slopes 5 6\nbuild\nshow slopes", b"ok 2\nrefused 1 at 0: the lists' lengths differ\n5 6\n"),
+    (b"slopes 5 6 7 8\nbuild\nshow slopes", b"ok 4\nrefused 1 at 0: the lists' lengths differ\n5 6 7 8\n"),
+    (b"slopes\nbuild\nshow slopes", b"ok 0\nrefused 1 at 0: the lists' lengths differ\n\n"),
+    (b"values 0 1 4 9\nbuild\nshow slopes", b"ok 4\nrefused 1 at 0: the lists' lengths differ\n7 8 9\n"),
+    (b"knots\nbuild\nshow knots", b"ok 0\nrefused 1 at 0: the lists' lengths differ\n\n"),
+    (
+        b"knots 3\nvalues 4\nslopes 5\nbuild\nshow slopes",
+        b"ok 1\nok 1\nok 1\nrefused 2 at 0: fewer than 2 or more than 1024 points\n5\n",
+    ),
+    (b"knots 0 2 2\nbuild\nshow slopes", b"ok 3\nrefused 3 at 1: a width is not in 1 to 1024\n7 8 9\n"),
+    (b"knots 0 1 0\nbuild\nshow slopes", b"ok 3\nrefused 3 at 1: a width is not in 1 to 1024\n7 8 9\n"),
+    (b"knots 0 1025 1026\nbuild\nshow slopes", b"ok 3\nrefused 3 at 0: a width is not in 1 to 1024\n7 8 9\n"),
+    (b"knots 0 1024 2048\nbuild\nshow slopes", b"ok 3\nok\n0 0 0\n"),
+    (
+        b"knots 2147483646 2147483647 -2147483648\nbuild\nshow slopes\nshow knots",
+        b"ok 3\nrefused 3 at 1: a width is not in 1 to 1024\n7 8 9\n2147483646 2147483647 -2147483648\n",
+    ),
+    (b"values 0 1048577 0\nbuild\nshow slopes", b"ok 3\nrefused 4 at 0: a rise is outside its limits\n7 8 9\n"),
+    (b"values 0 1 -1048576\nbuild\nshow slopes", b"ok 3\nrefused 4 at 1: a rise is outside its limits\n7 8 9\n"),
+    (b"values 0 1048576 0\nbuild\nshow slopes", b"ok 3\nok\n268435456 0 -268435456\n"),
+    (
+        b"values -2147483647 -2147483648 2147483647\nbuild\nshow values",
+        b"ok 3\nrefused 4 at 1: a rise is outside its limits\n-2147483647 -2147483648 2147483647\n",
+    ),
+    (
+        b"knots 0 2 2 3\nvalues 0 1 4 7\nslopes 6 7 8 9\nbuild\nshow slopes",  # document 01's, with point 1 changed
+        b"ok 4\nok 4\nok 4\nrefused 3 at 1: a width is not in 1 to 1024\n6 7 8 9\n",
+    ),
+    # Two of them: lengths, then the count, then all the widths, then the rises.
+    (b"knots 0\nbuild", b"ok 1\nrefused 1 at 0: the lists' lengths differ\n"),
+    (b"knots 0 0\nbuild", b"ok 2\nrefused 1 at 0: the lists' lengths differ\n"),
+    (b"knots" + b" 1" * 1025 + b"\nbuild", b"ok 1025\nrefused 1 at 0: the lists' lengths differ\n"),
+    (b"values 0 1048577 0\nknots 0 1 1\nbuild", b"ok 3\nok 3\nrefused 3 at 1: a width is not in 1 to 1024\n"),
+    (
+        b"knots 0 1 2 3 4 5 6 7 8 9 9\nvalues 0 2000000 0 0 0 0 0 0 0 0 0\nslopes 1 2 3 4 5 6 7 8 9 10 11\nbuild",
+        b"ok 11\nok 11\nok 11\nrefused 3 at 9: a width is not in 1 to 1024\n",
+    ),
+    (b"knots 0 0 0\nbuild\nknots 0 1 2\nbuild", b"ok 3\nrefused 3 at 0: a width is not in 1 to 1024\nok 3\nok\n"),
+    # Faults of the line.
+    (b"build it\nshow slopes", b"? line 4: too many words\n7 8 9\n"),
+    (b"Build\nbuilds\nshow slopes", b"? line 4: no such command\n? line 5: no such command\n7 8 9\n"),
+    (b"slope 5 6 7\nslopess 5 6 7\nshow slopes", b"? line 4: no such command\n? line 5: no such command\n7 8 9\n"),
+    (b"show\nshow knots values", b"? line 4: too few words\n? line 5: too many words\n"),
+    (b"show it\nshow Knots", b"? line 4: no such list\n? line 5: no such list\n"),
+    (b"show slope\nshow slopess", b"? line 4: no such list\n? line 5: no such list\n"),
+    (b"show it all\nshow slopes", b"? line 4: too many words\n7 8 9\n"),
+    (b"knots 5 x\nshow knots", b"? line 4: number 2 is not a whole decimal number\n0 1 2\n"),
+    (b"values 5 6 7 2147483648 x\nshow values", b"? line 4: number 4 does not fit 32 bits\n0 1 4\n"),
+    (b"slopes x -2147483649\nshow slopes", b"? line 4: number 1 is not a whole decimal number\n7 8 9\n"),
+    (b"slopes\t-0  007\t-2147483648 \r\nshow slopes", b"ok 3\n0 7 -2147483648\n"),
+    (b"slopes 1 2\r\r\nshow slopes", b"? line 4: number 2 is not a whole decimal number\n7 8 9\n"),
+    (b"knots" + b" 4" * 2048 + b"\nshow knots", b"ok 2048\n4" + b" 4" * 2047 + b"\n"),
+    (b"knots" + b" 4" * 2049 + b"\nshow knots", b"? line 4: too many words\n0 1 2\n"),
+    (b"knots" + b" 4" * 2048 + b" x\nshow knots", b"? line 4: too many words\n0 1 2\n"),
+    (b"knots" + b" 4" * 2047 + b" x\nshow knots", b"? line 4: number 2048 is not a whole decimal number\n0 1 2\n"),
+    (b"knots 1 2".ljust(65536) + b"\nshow knots", b"ok 2\n1 2\n"),
+    (b"knots 1 2".ljust(65537) + b"\nshow knots", b"? line 4: the line is longer than 65536 bytes\n0 1 2\n"),
+)
+
+
+def level_table(count, tail=b""):
+    """Lines that set a level table of so many points, then TAIL, build, and show the slopes."""
+    knots = b" ".join(b"%d" % knot for knot in range(count))
+    return b"knots %b\nvalues%b\nslopes%b\n%bbuild\nshow slopes\n" % (knots, b" 3" * count, b" 5" * count, tail)
+
+
+# Whole inputs, with tables of the most points, and one more.
+COUNT_LINES = (
+    (b"show knots\nshow values\nshow slopes\nbuild", b"\n\n\nrefused 2 at 0: fewer than 2 or more than 1024 points\n"),
+    (level_table(1024), b"ok 1024\n" * 3 + b"ok\n0" + b" 0" * 1023 + b"\n"),
+    (
+        level_table(1025),
+        b"ok 1025\n" * 3 + b"refused 2 at 0: fewer than 2 or more than 1024 points\n5" + b" 5" * 1024 + b"\n",
+    ),
+    (
+        level_table(1025, b"knots" + b" 1" * 1025 + b"\n"),
+        b"ok 1025\n" * 4 + b"refused 2 at 0: fewer than 2 or more than 1024 points\n5" + b" 5" * 1024 + b"\n",
+    ),
+    (
+        level_table(1024, b"values" + b" 3" * 1023 + b" -1048574\n"),
+        b"ok 1024\n" * 4 + b"refused 4 at 1022: a rise is outside its limits\n5" + b" 5" * 1023 + b"\n",
+    ),
 )
 
 
@@ -72,8 +179,8 @@ def small_pieces():
             yield from ((width, rise, a, b) for a in steps for b in steps)
 
 
-def first_fault():
-    """A sentence on the first thing that is wrong with the reference, or None."""
+def piece_fault():
+    """A sentence on the first piece that the reference judges wrongly, or None."""
     for *numbers, expected in FIGURES:
         if verdict(*numbers) != expected:
             return f"piece {numbers} is {expected} in document 01, and the reference says {verdict(*numbers)}"
@@ -85,7 +192,83 @@ def first_fault():
         if found != tried:
             piece = f"width {width}, rise {rise}, a {a}, b {b}"
             return f"{piece} is {tried} by trying every fraction, and the reference says {found}"
-    for data, expected in LINES:
-        if answers_to(data) != expected:
-            return f"{data[:60]!r} must give {expected!r}, and the reference gives {answers_to(data)!r}"
     return None
+
+
+def inner_slope_by_counting(h1, z1, h2, z2):
+    """For rises above 0: the last whole number, counted up from 0, that is not above document 01's quotient."""
+    slope = 0
+    while (slope + 1) * ((h1 + 2 * h2) * h1 * z2 + (2 * h1 + h2) * h2 * z1) <= 768 * (h1 + h2) * z1 * z2:
+        slope += 1
+    return slope
+
+
+def is_mean_rounded_down(slope, h1, z1, h2, z2):
+    """For rises above 0: whether the slope is the mean of Fritsch and Butland, rounded down.
+
+    It is a weighted harmonic mean, 1/m = w/s1 + (1 - w)/s2, of the slopes s1 and s2 of the two pieces.
+    """
+    s1, s2 = Fraction(UNIT * z1, h1), Fraction(UNIT * z2, h2)
+    w = Fraction(h1 + 2 * h2, 3 * (h1 + h2))
+    mean = 1 / (w / s1 + (1 - w) / s2)
+    return slope <= mean < slope + 1
+
+
+def inner_slope_fault():
+    """A sentence on the first slope at an inner point that is wrong, or None."""
+    for h1, z1, h2, z2 in product((1, 2, 3), (1, 2, 3), repeat=2):
+        if inner_slope(h1, z1, h2, z2) != inner_slope_by_counting(h1, z1, h2, z2):
+            return f"the slope between {h1, z1} and {h2, z2} is not the one found by counting"
+    for h1, z1, h2, z2 in product((1, 2, 3, 7, 500, 1023, 1024), (1, 2, 5, 999, 1048575, 1048576), repeat=2):
+        slope = inner_slope(h1, z1, h2, z2)
+        if not is_mean_rounded_down(slope, h1, z1, h2, z2):
+            return f"the slope between {h1, z1} and {h2, z2} is not the mean of Fritsch and Butland, rounded down"
+        if inner_slope(h1, -z1, h2, -z2) != -slope:
+            return f"the slope between {h1, -z1} and {h2, -z2} is not that between {h1, z1} and {h2, z2} with a minus"
+        if inner_slope(h1, -z1, h2, z2) or inner_slope(h1, z1, h2, -z2) or inner_slope(h1, 0, h2, z2):
+            return f"the slope between {h1, z1} and {h2, z2}, with one of them turned or level, is not 0"
+    return None
+
+
+def end_slope_fault():
+    """A sentence on the first slope at an end that is wrong, or None."""
+    for width, rise in product((1, 2, 3, 7, 255, 256, 257, 1023, 1024), (0, 1, 2, 3, 5, 999, 1048575, 1048576)):
+        size = UNIT * rise // width
+        if (end_slope(width, rise), end_slope(width, -rise)) != (size, -size):
+            return f"an end slope of width {width} and rise {rise}, or {-rise}, is not {size} with its sign"
+    return None
+
+
+def small_tables():
+    """Tables of four points with small steps, and with the least and the greatest, as widths and rises."""
+    yield from product(product((1, 2, 3), repeat=3), product(range(-3, 4), repeat=3))
+    yield from product(product((1, 1024), repeat=3), product((-1048576, -1, 0, 1, 1048576), repeat=3))
+
+
+def table_fault():
+    """A sentence on the first table whose slopes are wrong, or None."""
+    for knots, values, expected in BUILT_FIGURES:
+        if built_slopes(knots, values) != expected:
+            return f"knots {knots} and values {values} have slopes {expected} in document 01, and not in the reference"
+    for widths, rises in small_tables():
+        knots, values = ([sum(steps[:place]) for place in range(4)] for steps in (widths, rises))
+        slopes = built_slopes(knots, values)
+        for place, (width, rise) in enumerate(zip(widths, rises)):
+            monotone = "rising" if rise > 0 else "falling" if rise < 0 else "flat"
+            if verdict(width, rise, slopes[place], slopes[place + 1]) != monotone:
+                return f"piece {place} of knots {knots}, values {values}, built slopes {slopes} is not {monotone}"
+    return None
+
+
+def line_fault():
+    """A sentence on the first line that the reference answers wrongly, or None."""
+    after_table = [(SET_TABLE + data, b"ok 3\n" * 3 + expected) for data, expected in TABLE_LINES]
+    for data, expected in (*LINES, *after_table, *COUNT_LINES):
+        if answers_to(data) != expected:
+            return f"{data[:120]!r} must give {expected[:120]!r}, and the reference gives {answers_to(data)[:120]!r}"
+    return None
+
+
+def first_fault():
+    """A sentence on the first thing that is wrong with the reference, or None."""
+    return piece_fault() or inner_slope_fault() or end_slope_fault() or table_fault() or line_fault()

@@ -9,14 +9,11 @@ use Rattle.integers.specs.Linear.{lin, says}
 use Rattle.integers.specs.Order.{at-most, signs, 0≤-number, 0≤-gap, 0≤-plus, 0<-product, <ℤ→≤ℤ, ≤ℤ-cancel, pos-≤}
 use Rattle.cubic.specs.Piece.{NeverAgainst}
 use Rattle.cubic.specs.Slope.{in-box}
+use Rattle.cubic.specs.Slopes.{meanOver}
 
 pub box-accepts : {Z a b : ℤ} → pos 0 <ℤ Z → pos 0 ≤ℤ a → pos 0 ≤ℤ b → a ≤ℤ (pos 3 *ℤ Z) → b ≤ℤ (pos 3 *ℤ Z) → NeverAgainst Z a b
 box-accepts {Z} {a} {b} z₀ a₀ b₀ a₁ b₁ =
     record { at = λ k q q₁ k₁. in-box Z a b (pos k) (pos q) (0≤-number k) (pos-≤ k₁) a₀ b₀ z₀ a₁ b₁ }
-
--- "(h1 + 2·h2)·h1·z2 + (2·h1 + h2)·h2·z1"
-abbrev pub meanOver : (h₁ z₁ h₂ z₂ : ℤ) → ℤ
-meanOver h₁ z₁ h₂ z₂ = (h₁ +ℤ pos 2 *ℤ h₂) *ℤ h₁ *ℤ z₂ +ℤ (pos 2 *ℤ h₁ +ℤ h₂) *ℤ h₂ *ℤ z₁
 
 -- the same from the other side
 pub meanOver-mirrored : (h₁ z₁ h₂ z₂ : ℤ) → meanOver h₁ z₁ h₂ z₂ ≡ meanOver h₂ z₂ h₁ z₁

@@ -1,7 +1,10 @@
 pub mod Piece
 pub mod Slope
+pub mod Slopes
 pub mod Never
 pub mod Test
 pub mod Monotone
 pub mod Rise
 pub mod Built
+pub mod Inner
+pub mod Fair

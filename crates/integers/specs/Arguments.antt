@@ -1,34 +1,54 @@
--- A relation of three arguments of a call, as the code has them and plainly.
-use mathlib.Core.Path.{sym, subst₃}
+-- A relation of a call's arguments, as the code has them and plainly: of four, and so of two or three.
+use mathlib.Core.Path.{sym, subst₂}
 use mathlib.Core.Bool.{Bool, _&&_}
 use mathlib.Core.List.{List}
 use lib.Dec.{T}
-use lib.IntN.{ℤ}
+use lib.IntN.{ℤ, pos}
 use mir.Facts.{and-yes}
 use Rattle.integers.specs.Sizes.{Known, Code, code, plain, sound, plain-is}
 
--- three expressions, as the arguments of a call
-pub data Three (Γ : List Known) (x y z : ℤ) : Type 0 where
-  three : Code Γ x → Code Γ y → Code Γ z → Three Γ x y z
+-- four expressions, as the arguments of a call
+pub data Four (Γ : List Known) (x y z u : ℤ) : Type 0 where
+  four : Code Γ x → Code Γ y → Code Γ z → Code Γ u → Four Γ x y z u
 
-pub ruleset arguments = (three, code)
+pub ruleset arguments = (four, code)
 
-abbrev sound-all : {Γ : List Known} {x y z : ℤ} → Three Γ x y z → Bool
-sound-all (three c d e) = sound c && (sound d && sound e)
+abbrev pub sound-all : {Γ : List Known} {x y z u : ℤ} → Four Γ x y z u → Bool
+sound-all (four c d e f) = (sound c && sound d) && (sound e && sound f)
 
--- a relation of three plain values
-abbrev pub Plainly : (ℤ → ℤ → ℤ → Type 0) → {Γ : List Known} {x y z : ℤ} → Three Γ x y z → Type 0
-Plainly R (three c d e) = R (plain c) (plain d) (plain e)
+-- a relation of four plain values
+abbrev pub Plainly : (ℤ → ℤ → ℤ → ℤ → Type 0) → {Γ : List Known} {x y z u : ℤ} → Four Γ x y z u → Type 0
+Plainly R (four c d e f) = R (plain c) (plain d) (plain e) (plain f)
 
 -- what holds of the arguments as the code has them holds of the plain values, and the other way round
-pub plainly : (Γ : List Known) (R : ℤ → ℤ → ℤ → Type 0) {x y z : ℤ} → R x y z → (t : Three Γ x y z) → T (sound-all t) → Plainly R t
-plainly Γ R h (three c d e) t =
-    let a = and-yes (sound c) (sound d && sound e) t in
-    let b = and-yes (sound d) (sound e) (a .1) in
-    subst₃ R (plain-is c (a .0)) (plain-is d (b .0)) (plain-is e (b .1)) h
+pub plainly₄ : (Γ : List Known) (R : ℤ → ℤ → ℤ → ℤ → Type 0) {x y z u : ℤ} → R x y z u → (t : Four Γ x y z u) → T (sound-all t) → Plainly R t
+plainly₄ Γ R {z = z} {u = u} h (four c d e f) t =
+    let s = and-yes (sound c && sound d) (sound e && sound f) t in
+    let a = and-yes (sound c) (sound d) (s .0) in
+    let b = and-yes (sound e) (sound f) (s .1) in
+    subst₂ (λ (z u : ℤ). R (plain c) (plain d) z u) (plain-is e (b .0)) (plain-is f (b .1))
+    (subst₂ (λ (x y : ℤ). R x y z u) (plain-is c (a .0)) (plain-is d (a .1)) h)
 
-pub as-coded : (Γ : List Known) (R : ℤ → ℤ → ℤ → Type 0) {x y z : ℤ} (t : Three Γ x y z) → T (sound-all t) → Plainly R t → R x y z
-as-coded Γ R (three c d e) t h =
-    let a = and-yes (sound c) (sound d && sound e) t in
-    let b = and-yes (sound d) (sound e) (a .1) in
-    subst₃ R (sym (plain-is c (a .0))) (sym (plain-is d (b .0))) (sym (plain-is e (b .1))) h
+pub as-coded₄ : (Γ : List Known) (R : ℤ → ℤ → ℤ → ℤ → Type 0) {x y z u : ℤ} (t : Four Γ x y z u) → T (sound-all t) → Plainly R t → R x y z u
+as-coded₄ Γ R {z = z} {u = u} (four c d e f) t h =
+    let s = and-yes (sound c && sound d) (sound e && sound f) t in
+    let a = and-yes (sound c) (sound d) (s .0) in
+    let b = and-yes (sound e) (sound f) (s .1) in
+    subst₂ (λ (x y : ℤ). R x y z u) (sym (plain-is c (a .0))) (sym (plain-is d (a .1)))
+    (subst₂ (λ (z u : ℤ). R (plain c) (plain d) z u) (sym (plain-is e (b .0))) (sym (plain-is f (b .1))) h)
+
+-- ---- of two, and of three
+
+module _ (Γ : List Known) (R : ℤ → ℤ → Type 0) {x y : ℤ} where
+  pub plainly₂ : R x y → (t : Four Γ x y (pos 0) (pos 0)) → T (sound-all t) → Plainly (λ x y _ _. R x y) t
+  plainly₂ = plainly₄ Γ (λ x y _ _. R x y)
+
+  pub as-coded₂ : (t : Four Γ x y (pos 0) (pos 0)) → T (sound-all t) → Plainly (λ x y _ _. R x y) t → R x y
+  as-coded₂ = as-coded₄ Γ (λ x y _ _. R x y)
+
+module _ (Γ : List Known) (R : ℤ → ℤ → ℤ → Type 0) {x y z : ℤ} where
+  pub plainly₃ : R x y z → (t : Four Γ x y z (pos 0)) → T (sound-all t) → Plainly (λ x y z _. R x y z) t
+  plainly₃ = plainly₄ Γ (λ x y z _. R x y z)
+
+  pub as-coded₃ : (t : Four Γ x y z (pos 0)) → T (sound-all t) → Plainly (λ x y z _. R x y z) t → R x y z
+  as-coded₃ = as-coded₄ Γ (λ x y z _. R x y z)

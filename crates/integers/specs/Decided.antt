@@ -1,8 +1,12 @@
 -- How a bool that says whether a statement holds is made and used.
 use mathlib.Core.Path.{_≡_, refl, subst}
 use mathlib.Core.Bool.{Bool, true, false, not}
+use mathlib.Core.Logic.{_⊎_, inl, inr}
 use lib.Dec.{T}
-use Rattle.integers.specs.Promise.{Decided, holds, fails}
+use lib.IntN.{ℤ}
+use lib.Signed.{_≤ℤ_, _<ℤ_, clashℤ}
+use Rattle.integers.specs.Promise.{Between, Decided, holds, fails}
+use Rattle.integers.specs.Order.{≤ℤ-or-<ℤ}
 
 -- by a test that is true where A holds
 pub decided-by : {A : Type 0} (b : Bool) → (b ≡ true → A) → (b ≡ false → A → ⊥) → Decided A b
@@ -23,3 +27,17 @@ one-decision (holds a) (holds d) = refl
 one-decision (holds a) (fails g) = absurd (g a)
 one-decision (fails f) (holds d) = absurd (f d)
 one-decision (fails f) (fails g) = refl
+
+-- ---- what holds where it cannot fail
+
+pub stable : {A : Type 0} → A ⊎ (A → ⊥) → ((A → ⊥) → ⊥) → A
+stable (inl a) f = a
+stable (inr g) f = absurd (f g)
+
+pub between-or-not : (l x h : ℤ) → Between l x h ⊎ (Between l x h → ⊥)
+between-or-not l x h = go (≤ℤ-or-<ℤ l x) (≤ℤ-or-<ℤ x h)
+  where
+    go : (l ≤ℤ x) ⊎ (x <ℤ l) → (x ≤ℤ h) ⊎ (h <ℤ x) → Between l x h ⊎ (Between l x h → ⊥)
+    go (inl a) (inl b) = inl (record { low = a; high = b })
+    go (inl a) (inr b) = inr (λ (w : Between l x h). clashℤ b (w .high))
+    go (inr a) b = inr (λ (w : Between l x h). clashℤ a (w .low))

@@ -3,15 +3,16 @@ use mathlib.Core.Path.{_≡_, refl, sym, _∙_, ap, subst, subst₂}
 use mathlib.Core.List.{[], _∷_}
 use Prim.Native.Nat.{ℕ, zero, suc, _+_, _*_, _/_, _%_, _≤_, _<_, zero-le}
 use native.Mathlib.Omega.{arith}
-use native.Mathlib.Nat.{div-add-mod', mod-lt, div-le-self, lt-of-le-of-lt}
-use lib.IntN.{ℤ, pos, negsuc, negℤ, _+ℤ_, _-ℤ_, _*ℤ_, *ℤ-comm}
+use native.Mathlib.Nat.{div-add-mod', mod-lt, div-le-self, le-refl, le-trans, lt-of-le-of-lt}
+use lib.IntN.{ℤ, pos, negsuc, negℤ, natAbs, _+ℤ_, _-ℤ_, _*ℤ_, *ℤ-comm}
 use lib.Signed.{_≤ℤ_, _<ℤ_, mag, quotZ, remZ, mag-rem, ≤ℤ-refl}
 use mir.Syntax.{Width}
 use mir.Val.{SFits}
-use Rattle.integers.specs.Promise.{Floor, floorOf}
+use Rattle.integers.specs.Promise.{Floor, floorOf, magnitude, withSign, towardZero}
 use Rattle.integers.specs.Ring.{ring, quote}
 use Rattle.integers.specs.Linear.{lin, says}
-use Rattle.integers.specs.Order.{≤ℤ-<ℤ-trans, ≤ℤ-trans, ≤ℤ-antisym, <ℤ-cancel, pos-≤}
+use Rattle.integers.specs.Order.{≤ℤ-<ℤ-trans, ≤ℤ-trans, ≤ℤ-antisym, <ℤ-cancel, pos-≤, 0≤-number, 0<-suc}
+use Rattle.integers.specs.Within.{Within, natAbs-minus}
 use Rattle.integers.specs.Parts.{≤-from, <-from, <-to, from-parts, diff-neg, diff-add, diff-self}
 
 -- ---- order
@@ -133,9 +134,6 @@ rem-fits w {n} d f = record { sfits = lt-of-le-of-lt (mag-rem n d) (f .sfits) }
 pub floor-fits : (w : Width) {n : ℤ} (d : ℤ) → SFits w n → SFits w (floorOf n d)
 floor-fits w {n} d f = record { sfits = lt-of-le-of-lt (mag-floor n d) (f .sfits) }
 
-0<-suc : (d : ℕ) → pos 0 <ℤ pos (suc d)
-0<-suc d = <-from (pos 0) (pos (suc d)) (omega arith)
-
 pub quot-floor : (n : ℤ) {d : ℤ} → pos 1 ≤ℤ d → pos 0 ≤ℤ remZ n d → quotZ n d ≡ floorOf n d
 quot-floor n {d = pos zero} h r = absurd (h .le)
 quot-floor n {d = pos (suc d)} h r = floor-unique {n = n} {d = pos (suc d)} (0<-suc d) (floor-exact n (suc d) (omega arith) r) (floor-is n d)
@@ -150,3 +148,62 @@ pub no-floor : (n : ℤ) {d : ℤ} → d <ℤ pos 1 → pos 0 ≡ floorOf n d
 no-floor n {d = pos zero} h = refl
 no-floor n {d = pos (suc d)} h = absurd (omega (arith, <-to (pos (suc d)) (pos 1) h))
 no-floor n {d = negsuc d} h = refl
+
+-- ---- toward zero
+
+-- the machine's quotient is the one toward zero
+pub quot-toward : (n : ℤ) {d : ℤ} → pos 1 ≤ℤ d → quotZ n d ≡ towardZero n d
+quot-toward n {d = pos zero} h = absurd (h .le)
+quot-toward (pos n) {d = pos (suc d)} h = refl
+quot-toward (negsuc n) {d = pos (suc d)} h = refl
+quot-toward n {d = negsuc d} h = absurd (h .le)
+
+pub no-quotient : (n : ℤ) {d : ℤ} → d <ℤ pos 1 → pos 0 ≡ towardZero n d
+no-quotient (pos n) h = no-floor (pos n) h
+no-quotient (negsuc n) h = ap negℤ (no-floor (pos (suc n)) h)
+
+-- it is no larger than the number
+pub toward-within : {M : ℕ} (n d : ℤ) → Within M n → Within M (towardZero n d)
+toward-within n d h = record { size = le-trans (smaller n) (h .size) }
+  where
+    floor-smaller : (n : ℕ) → natAbs (floorOf (pos n) d) ≤ n
+    floor-smaller n = le-trans (natAbs-floor n d) (mag-floor (pos n) d)
+      where
+        natAbs-floor : (n : ℕ) (d : ℤ) → natAbs (floorOf (pos n) d) ≤ mag (floorOf (pos n) d)
+        natAbs-floor n (pos zero) = zero-le
+        natAbs-floor n (pos (suc d)) = le-refl _
+        natAbs-floor n (negsuc d) = zero-le
+
+    smaller : (n : ℤ) → natAbs (towardZero n d) ≤ natAbs n
+    smaller (pos n) = floor-smaller n
+    smaller (negsuc n) =
+        subst (λ (m : ℕ). m ≤ suc n) (sym (natAbs-minus (floorOf (pos (suc n)) d))) (floor-smaller (suc n))
+
+-- a number with a positive factor
+pub toward-scaled : {k : ℤ} → pos 0 <ℤ k → (z d : ℤ) → towardZero (k *ℤ z) d ≡ withSign z (floorOf (k *ℤ magnitude z) d)
+toward-scaled {k = pos zero} h z d = absurd (h .lt)
+toward-scaled {k = pos (suc k)} h (pos n) d = refl
+toward-scaled {k = pos (suc k)} h (negsuc n) d = below (suc k * suc n) (omega arith)
+  where
+    below : (m : ℕ) → zero < m → towardZero (negℤ (pos m)) d ≡ negℤ (floorOf (pos m) d)
+    below zero l = absurd (omega (arith, l))
+    below (suc m) l = refl
+toward-scaled {k = negsuc k} h z d = absurd (h .lt)
+
+-- and of a number that is not below 0 it is the floor
+pub toward-floor : {n : ℤ} (d : ℤ) → pos 0 ≤ℤ n → towardZero n d ≡ floorOf n d
+toward-floor {n = pos n} d h = refl
+toward-floor {n = negsuc n} d h = absurd (h .le)
+
+-- ---- what a floor is at least and at most
+
+pub 0≤-floor : {n : ℤ} (d : ℤ) → pos 0 ≤ℤ n → pos 0 ≤ℤ floorOf n d
+0≤-floor {n = pos n} (pos zero) h = 0≤-number 0
+0≤-floor {n = pos n} (pos (suc d)) h = 0≤-number _
+0≤-floor {n = pos n} (negsuc d) h = 0≤-number 0
+0≤-floor {n = negsuc n} d h = absurd (h .le)
+
+pub floor-low : (n : ℤ) {d : ℤ} → pos 0 <ℤ d → (floorOf n d *ℤ d) ≤ℤ n
+floor-low n {d = pos zero} h = absurd (h .lt)
+floor-low n {d = pos (suc d)} h = floor-is n d .low
+floor-low n {d = negsuc d} h = absurd (h .lt)

@@ -4,7 +4,9 @@ pub mod Laws
 pub mod Ring
 pub mod Linear
 pub mod Order
+pub mod Signs
 pub mod Division
+pub mod Quotient
 pub mod Decided
 pub mod Within
 pub mod Sizes

@@ -9,7 +9,7 @@ use native.Mathlib.Omega.{arith}
 use lib.Dec.{T, T-not}
 use lib.IntN.{ℤ, pos, negsuc, negℤ, _+ℤ_, _-ℤ_, _*ℤ_}
 use lib.Signed.{_≤ℤ_, _<ℤ_, leZ, ltZ, leZ-yes, ltZ-yes, ltZ-no, clashℤ}
-use Rattle.integers.specs.Parts.{≤-to, ≤-from}
+use Rattle.integers.specs.Parts.{≤-to, ≤-from, <-from}
 use Rattle.integers.specs.Linear.{lin, says}
 use Rattle.integers.specs.Ring.{ring, quote}
 
@@ -67,6 +67,12 @@ pub 0≤-square : (x : ℤ) → pos 0 ≤ℤ (x *ℤ x)
 0≤-square (pos a) = 0≤-number (a * a)
 0≤-square (negsuc a) = 0≤-number (suc a * suc a)
 
+pub 0<-suc : (n : ℕ) → pos 0 <ℤ pos (suc n)
+0<-suc n = <-from (pos 0) (pos (suc n)) (omega arith)
+
+pub 0<-plus : {x y : ℤ} → pos 0 <ℤ x → pos 0 <ℤ y → pos 0 <ℤ (x +ℤ y)
+0<-plus {x} {y} = lin (x ∷ y ∷ []) (search says depth 30 fits 9000) (omega arith)
+
 -- what an order says of its gap
 pub 0≤-gap : {x y : ℤ} → x ≤ℤ y → pos 0 ≤ℤ (y -ℤ x)
 0≤-gap {x} {y} = lin (x ∷ y ∷ []) (search says depth 30 fits 9000) (omega arith)
@@ -106,6 +112,8 @@ pub 0<-product : {x y : ℤ} → pos 0 <ℤ x → pos 0 <ℤ y → pos 0 <ℤ (x
     1≤→0<
     (at-most ((x -ℤ pos 1) *ℤ (y -ℤ pos 1) +ℤ (x -ℤ pos 1) +ℤ (y -ℤ pos 1))
     (ring (x ∷ y ∷ []) (search quote depth 30 fits 9000) tt) (search signs))
+
+pub ruleset positives = (0<-plus, 0<-product, 0<-suc)
 
 -- a positive factor can be taken out of an order
 pub 0≤-cancel : {k x : ℤ} → pos 0 <ℤ k → pos 0 ≤ℤ (k *ℤ x) → pos 0 ≤ℤ x

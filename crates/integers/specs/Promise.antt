@@ -1,7 +1,8 @@
 -- The definitions that the contracts of this crate cite. Whoever believes its promises believes this file.
+use mathlib.Core.Path.{_≡_}
 use mathlib.Core.Bool.{Bool, true, false}
 use Prim.Native.Nat.{zero, suc, _/_}
-use lib.IntN.{ℤ, pos, negsuc, _+ℤ_, _*ℤ_}
+use lib.IntN.{ℤ, pos, negsuc, negℤ, natAbs, _+ℤ_, _*ℤ_}
 use lib.Signed.{_≤ℤ_, _<ℤ_}
 
 -- x lies between two numbers, both included.
@@ -25,3 +26,19 @@ floorOf n (pos zero) = pos 0
 floorOf (pos n) (pos (suc d)) = pos (n / suc d)
 floorOf (negsuc n) (pos (suc d)) = negsuc (n / suc d)
 floorOf n (negsuc d) = pos 0
+
+abbrev pub magnitude : ℤ → ℤ
+magnitude x = pos (natAbs x)
+
+-- x, given the sign of s.
+abbrev pub withSign : (s x : ℤ) → ℤ
+withSign (pos n) x = x
+withSign (negsuc n) x = negℤ x
+
+-- n/d rounded toward zero: its magnitude rounded down, with the sign of n.
+abbrev pub towardZero : (n d : ℤ) → ℤ
+towardZero n d = withSign n (floorOf (magnitude n) d)
+
+-- The same as a relation, which shows n and d to a caller's proof.
+pub record TowardZero (n d q : ℤ) : Type 0 where
+  pub is : q ≡ towardZero n d

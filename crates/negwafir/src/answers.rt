@@ -1,5 +1,6 @@
-// Answer lines. Each is put together in a small buffer, longer than any answer, and written by one call. Each function says whether its line could
-// be written.
+// Answer lines. Each is put together in a buffer that has room for the longest, and written by one call. Each function says whether its line
+// could be written.
+use crate::lists::ROOM;
 
 // `? line L: CAUSE`.
 pub fn fault(number: u64, cause: &[u8]) -> bool {
@@ -33,6 +34,51 @@ pub fn verdict(v: piece::Verdict) -> bool {
     }
 }
 
+// `ok`, or the refusal. The number 0 says that nothing is refused.
+pub fn done(r: rules::Refusal) -> bool {
+    if r.number == 0 {
+        return word(b"ok");
+    }
+    refused(r)
+}
+
+// `ok COUNT`.
+pub fn ok_count(count: usize) -> bool {
+    let mut space = [0u8; 128];
+    let out: &mut [u8] = &mut space;
+    let n = words::append(out, 0, b"ok ");
+    let n = decimals::append_natural(out, n, count as u64);
+    close(out, n)
+}
+
+// The numbers of a list, separated by spaces. No list has more than ROOM of them, and each has up to 11 characters and a space or the line's end
+// behind it.
+pub fn row(list: &[i32]) -> bool {
+    let mut space = [0u8; 12 * ROOM];
+    let out: &mut [u8] = &mut space;
+    let mut n = 0;
+    let mut i = 0;
+    while i < list.len() {
+        n = append_next(out, n, wide(list[i]));
+        i += 1;
+    }
+    close(out, n)
+}
+
+// A number behind the `held` bytes of a line, and a space before it unless it is the first.
+fn append_next(out: &mut [u8], held: usize, number: i64) -> usize {
+    if held == 0 {
+        return decimals::append_whole(out, held, number);
+    }
+    let n = words::append(out, held, b" ");
+    decimals::append_whole(out, n, number)
+}
+
+// A number of 32 bits as one of 64.
+fn wide(number: i32) -> i64 {
+    number as i64
+}
+
 fn word(text: &[u8]) -> bool {
     let mut space = [0u8; 128];
     let out: &mut [u8] = &mut space;
@@ -56,6 +102,8 @@ fn refused(r: rules::Refusal) -> bool {
 // What a refusal's number says.
 fn cause(out: &mut [u8], held: usize, number: u32) -> usize {
     match number {
+        1 => words::append(out, held, b"the lists' lengths differ"),
+        2 => words::append(out, held, b"fewer than 2 or more than 1024 points"),
         3 => words::append(out, held, b"a width is not in 1 to 1024"),
         4 => words::append(out, held, b"a rise is outside its limits"),
         _ => held,

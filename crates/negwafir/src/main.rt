@@ -2,6 +2,10 @@
 mod answers;
 mod commands;
 mod input;
+mod lists;
+mod numbers;
+mod pieces;
+mod table;
 
 fn main() {
     input::serve();

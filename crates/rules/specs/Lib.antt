@@ -1,1 +1,4 @@
+pub mod Known
 pub mod Limits
+pub mod Order
+pub mod Refusals

@@ -1,6 +1,12 @@
--- "Numbers that bound everything" of the exact rules, as far as they bound a piece.
+-- "Numbers that bound everything" of the exact rules.
+use Prim.Native.Nat.{ℕ, _≤_}
 use lib.IntN.{ℤ, pos, negsuc}
 use Rattle.integers.specs.Promise.{Between}
+
+-- "2 to 1,024 points"
+pub record CountWithin (n : ℕ) : Type 0 where
+  pub low : 2 ≤ n
+  pub high : n ≤ 1024
 
 -- "h from 1 to 1,024"
 abbrev pub WidthWithin : ℤ → Type 0

@@ -1,8 +1,8 @@
 // The numbers of the exact rules: the limits of a piece, and how a refusal is answered.
 ghost use Rattle.integers.specs.Promise.{Decided};
-ghost use Rattle.rules.specs.Limits.{WidthWithin, RiseWithin};
+ghost use Rattle.rules.specs.Limits.{CountWithin, WidthWithin, RiseWithin};
 
-// A refusal: its number in the exact rules, and the place that it names.
+// A refusal: its number in the exact rules, and the place that it names. Both are 0 where nothing is refused.
 pub struct Refusal {
     pub number: u32,
     pub place: usize,
@@ -11,10 +11,26 @@ pub struct Refusal {
 // Slopes are in units of 1/256 of a value per count.
 pub const UNIT: i64 = 256;
 
+// None, done.
+pub const DONE: u32 = 0;
+// The lists' lengths differ.
+pub const LENGTHS: u32 = 1;
+// Fewer than 2 or more than 1,024 points.
+pub const COUNT: u32 = 2;
 // A width is not in 1 to 1,024.
 pub const WIDTH: u32 = 3;
 // A rise is outside its limits.
 pub const RISE: u32 = 4;
+
+// Whether a number of points is in 2 to 1,024.
+pub fn count_within(n: usize) -> bool
+    ensures { λ r. ⌜ Decided (CountWithin n) r ⌝ }
+{
+    if n < 2 {
+        return false;
+    }
+    n <= 1024
+}
 
 // Whether a width is in 1 to 1,024.
 pub fn width_within(h: i64) -> bool

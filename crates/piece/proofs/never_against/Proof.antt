@@ -13,7 +13,7 @@ use Rattle.integers.specs.Linear.{lin, says}
 use Rattle.integers.specs.Within.{Within, within, within-high, within-more}
 use Rattle.integers.specs.Sizes.{Known, known, fits, code}
 use Rattle.integers.specs.Tests.{tests, passed, failed}
-use Rattle.integers.specs.Arguments.{arguments, plainly, as-coded}
+use Rattle.integers.specs.Arguments.{arguments, plainly₃, as-coded₃}
 use Rattle.cubic.specs.Slope.{over, Inside}
 use Rattle.cubic.specs.Never.{start-not-against, end-not-against, start-below-four, end-below-four}
 use Rattle.cubic.specs.Test.{line, oval, short-accepts, in-oval}
@@ -113,7 +113,7 @@ in-ellipse-requires c κs =
     let s = c .before .before .before .before .before in
     let a = at-most-times _ (s .pre .rise) (start-up (c .before .before .before .before)) (failed (given s) (c .before .if4 .left) (search tests depth 30 fits 9000) tt) in
     let b = at-most-times _ (s .pre .rise) (end-up (c .before .before .before)) (failed (given s) (c .if5 .left) (search tests depth 30 fits 9000) tt) in
-    as-coded (given s) Low (search arguments depth 30 fits 9000) tt
+    as-coded₃ (given s) Low (search arguments depth 30 fits 9000) tt
     (record {
       over = within-more tt (over-size (s .pre .up) (above (c .before .before)) a b);
       start = within-more tt a;
@@ -126,8 +126,8 @@ returns-6 c =
     let s = p .before .before .before .before .before in
     let o = above (p .before .before) in
     decided-by _
-    (λ e. short-accepts (oval (start-up (p .before .before .before .before)) (end-up (p .before .before .before)) o (plainly (given s) Inside (told (c .in-ellipse .ensures) e) (search arguments depth 30 fits 9000) tt)))
-    (λ e f. denied (c .in-ellipse .ensures) e (as-coded (given s) Inside (search arguments depth 30 fits 9000) tt (in-oval f o)))
+    (λ e. short-accepts (oval (start-up (p .before .before .before .before)) (end-up (p .before .before .before)) o (plainly₃ (given s) Inside (told (c .in-ellipse .ensures) e) (search arguments depth 30 fits 9000) tt)))
+    (λ e f. denied (c .in-ellipse .ensures) e (as-coded₃ (given s) Inside (search arguments depth 30 fits 9000) tt (in-oval f o)))
 
 pub never-against-spec : {M : Type 1} → statement M
 never-against-spec =

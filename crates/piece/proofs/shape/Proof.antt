@@ -3,17 +3,17 @@ use mathlib.Core.Path.{_≡_, sym, subst}
 use mathlib.Core.List.{List, [], _∷_}
 use native.Mathlib.Omega.{arith}
 use lib.IntN.{ℤ, pos, negℤ, _*ℤ_}
-use lib.Signed.{_<ℤ_, leZ-yes}
+use lib.Signed.{_<ℤ_}
 use mir.Syntax.{w32}
 use Rattle.integers.specs.Decided.{told, denied}
 use Rattle.integers.specs.Linear.{lin, says}
-use Rattle.integers.specs.Order.{≤ℤ-trans, ≤ℤ-antisym}
-use Rattle.integers.specs.Within.{within}
-use Rattle.integers.specs.Sizes.{Known, known, held, fits, sized, plain-is, code}
+use Rattle.integers.specs.Order.{≤ℤ-antisym}
+use Rattle.integers.specs.Sizes.{Known, held, fits, sized, plain-is, code}
 use Rattle.integers.specs.Tests.{tests, zeros, passed, failed, zero-yes, zero-no}
-use Rattle.integers.specs.Arguments.{plainly, as-coded, arguments}
+use Rattle.integers.specs.Arguments.{plainly₃, as-coded₃, arguments}
 use Rattle.cubic.specs.Piece.{NeverAgainst}
 use Rattle.cubic.specs.Monotone.{monotone-rising, monotone-falling, monotone-level}
+use Rattle.rules.specs.Known.{known-width, known-rise}
 use Rattle.piece.specs.Promise.{bent}
 use Rattle.piece.specs.Leaning.{is-rising, is-falling, is-flat}
 use Rattle.piece.proofs.shape.Statement.{statement}
@@ -22,10 +22,8 @@ use Rattle.piece.proofs.shape.Tie as tie
 -- what the limits and the types say of the arguments
 abbrev given : tie.Start → List Known
 given s =
-    let w = s .pre .0 in
-    let r = s .pre .1 in
-    known (s .args .h) 1024 (within 1024 (s .args .h) (≤ℤ-trans (leZ-yes tt) (w .low)) (w .high))
-    ∷ known (s .args .z) 1048576 (within 1048576 (s .args .z) (r .low) (r .high))
+    known-width (s .args .h) (s .pre .0)
+    ∷ known-rise (s .args .z) (s .pre .1)
     ∷ held w32 (s .args .m) (s .fits .m)
     ∷ held w32 (s .args .n) (s .fits .n)
     ∷ []
@@ -69,7 +67,7 @@ returns c =
     let s = p .before in
     is-rising (s .pre .0) (s .pre .1) (up p)
     (monotone-rising (up p)
-    (plainly (given s) NeverAgainst (told (c .before .never-against .ensures) (c .if2 .taken)) (search arguments depth 30 fits 9000) tt))
+    (plainly₃ (given s) NeverAgainst (told (c .before .never-against .ensures) (c .if2 .taken)) (search arguments depth 30 fits 9000) tt))
 
 returns-2 : tie.Need-returns-2
 returns-2 c =
@@ -77,7 +75,7 @@ returns-2 c =
     let s = p .before in
     bent (s .pre .0) (s .pre .1)
     (λ m. denied (c .before .never-against .ensures) (c .if2 .left)
-    (as-coded (given s) NeverAgainst (search arguments depth 30 fits 9000) tt (m .rising (up p))))
+    (as-coded₃ (given s) NeverAgainst (search arguments depth 30 fits 9000) tt (m .rising (up p))))
 
 -- ---- a fall
 
@@ -112,7 +110,7 @@ returns-3 c =
     let s = p .before .before in
     is-falling (s .pre .0) (s .pre .1) (down p)
     (monotone-falling (down p)
-    (plainly (given s) NeverAgainst (told (c .before .never-against2 .ensures) (c .if4 .taken)) (search arguments depth 30 fits 9000) tt))
+    (plainly₃ (given s) NeverAgainst (told (c .before .never-against2 .ensures) (c .if4 .taken)) (search arguments depth 30 fits 9000) tt))
 
 returns-4 : tie.Need-returns-4
 returns-4 c =
@@ -120,7 +118,7 @@ returns-4 c =
     let s = p .before .before in
     bent (s .pre .0) (s .pre .1)
     (λ m. denied (c .before .never-against2 .ensures) (c .if4 .left)
-    (as-coded (given s) NeverAgainst (search arguments depth 30 fits 9000) tt (m .falling (down p))))
+    (as-coded₃ (given s) NeverAgainst (search arguments depth 30 fits 9000) tt (m .falling (down p))))
 
 -- ---- neither
 

@@ -1,0 +1,155 @@
+"""Lines on which the program and the reference are compared: how words and numbers are read, and each fault."""
+from dice import I32_MAX, I32_MIN, I64_MAX, I64_MIN
+from reference import LONGEST_LINE
+
+
+def blanks():
+    yield b"piece\t1\t1\t256\t256"
+    yield b"  piece   1  1    256 256"
+    yield b"\tpiece 1 \t 1\t \t256 256"
+    yield b"piece 1 1 256 256 "
+    yield b"piece 1 1 256 256\t \t"
+    yield b" \t piece 1 -1 -256 -256 \t "
+
+
+def carriage_returns():
+    yield b"piece 1 1 256 256\r"
+    yield b"piece 1 1 768 769 \r"
+    yield b"\r"
+    yield b" \t\r"
+    yield b"# a comment\r"
+    yield b"piece 1 0 0 0\r"
+    # Only one CR, and only at the end, belongs to the ending.
+    yield b"piece 1 1 256 256\r\r"
+    yield b"\r\r"
+    yield b"\rpiece 1 1 256 256"
+    yield b"piece 1 1\r256 256"
+    yield b"piece 1 1 256 256 \r\r"
+    yield b"pie\rce 1 1 256 256"
+
+
+def silent_lines():
+    yield from (b"", b" ", b"\t", b" \t \t", b"#", b"#piece 1 1 256 256", b"## \x00\xff", b"# \xc3\xa9")
+    # A comment begins with its very first byte.
+    yield b" # piece 1 1 256 256"
+    yield b"piece 1 1 256 256 # steep"
+    yield b"piece 1 1 256 #256"
+    yield b"piece# 1 1 256 256"
+
+
+def unknown_commands():
+    for word in (
+        b"Piece", b"PIECE", b"piec", b"pieces", b"p", b"ecei", b"piece,", b"-piece", b"1", b"?",
+        b"p\xc3\xade\xc3\xa7e", b"piece\xff", b"\xff", b"\xa0piece", b"piece\x00", b"\x00",
+        b"piece\x0b1", b"piece\x0c", b"\xef\xbb\xbfpiece",
+    ):
+        yield word + b" 1 1 256 256"
+    # The command is asked before the count of words and before the numbers.
+    yield b"Piece"
+    yield b"pieces one two"
+    yield b"piece1 1 256 256"
+
+
+def counts_of_words():
+    yield from (b"piece", b"piece ", b"piece 1", b"piece 1 1", b"piece 1 1 256")
+    yield from (b"piece 1 1 256 256 256", b"piece 1 1 256 256 256 256", b"piece 1 1 256 256 x")
+    # The count is asked before the numbers.
+    yield from (b"piece x", b"piece 1.5 1 256", b"piece x 1 256 256 256", b"piece piece")
+
+
+def each_number(word):
+    """Good pieces with one number replaced by the word, each of the four in turn."""
+    good = [b"1", b"1", b"256", b"256"]
+    for place in range(4):
+        yield b" ".join([b"piece", *good[:place], word, *good[place + 1 :]])
+
+
+def not_decimal():
+    for word in (
+        b"+1", b"1.0", b"--1", b"-", b"1e3", b"0x10", b"1_0", b"1-", b"-+1", b"x", b"1,000", b"0-1",
+        b"\xd9\xa1", b"\xe2\x88\x921", b"1\xff", b"1\x00", b"\x0b1", b"/", b":", b"1/1", b"1;", b"\xb9",
+        b"99999999999999999999x",
+    ):
+        yield from each_number(word)
+
+
+def odd_but_decimal():
+    for word in (b"0", b"-0", b"00", b"-000", b"01", b"0000000001", b"-01", b"0" * 30 + b"1", b"0" * 400 + b"1"):
+        yield from each_number(word)
+    yield b"piece 1 0 -0 -00"
+    yield b"piece 0001 00 0000 -0000"
+
+
+def ends_of_sizes():
+    for number in (
+        I32_MAX, I32_MAX + 1, I32_MIN, I32_MIN - 1, 2**32, 2**32 + 256, -(2**32),
+        I64_MAX, I64_MAX + 1, I64_MIN, I64_MIN - 1, 2**64, 2**64 + 1, -(2**64) + 1, 2**64 + 2**32,
+    ):
+        yield from each_number(b"%d" % number)
+    for word in (
+        b"0" * 30 + b"%d" % I32_MAX, b"-" + b"0" * 30 + b"%d" % -I32_MIN,
+        b"0" * 30 + b"%d" % I64_MAX, b"0" * 30 + b"%d" % (I64_MAX + 1),
+        b"-" + b"0" * 380 + b"%d" % -I64_MIN, b"-" + b"0" * 380 + b"%d" % (1 - I64_MIN),
+        b"99999999999999999999", b"9" * 30, b"-" + b"9" * 30, b"1" + b"0" * 29, b"7" * 400, b"-1" + b"0" * 399,
+    ):
+        yield from each_number(word)
+
+
+def first_fault():
+    yield b"piece x y z w"
+    yield b"piece 1 y z w"
+    yield b"piece 1 1 z w"
+    yield b"piece 99999999999999999999 y 0 0"
+    yield b"piece x 99999999999999999999 0 0"
+    yield b"piece 1 99999999999999999999 4294967296 w"
+    yield b"piece 1 1 4294967296 w"
+    yield b"piece 1 1 w 4294967296"
+    # A fault of the line comes before any refusal.
+    yield b"piece 0 1 256 x"
+    yield b"piece 1025 1048577 0 2147483648"
+    yield b"piece 0 9223372036854775808 0 0"
+
+
+def long_lines():
+    good = b"piece 1 1 256 256"
+    # Each is followed by a short one, to see that the next line is read from its start.
+    yield b"piece 1 1 256 " + b"256".rjust(LONGEST_LINE - 14, b"0")
+    yield good
+    yield b"piece 1 -1 -256" + b"-256".rjust(LONGEST_LINE - 15) + b"\r"
+    yield good
+    yield good.ljust(LONGEST_LINE + 1)
+    yield good
+    yield b"#".ljust(LONGEST_LINE + 1, b"=")
+    yield good
+    yield b"\t" * (2 * LONGEST_LINE + 1)
+    yield good
+    yield b" " * LONGEST_LINE + good
+    yield good
+    # A CR that ends the line does not count, and any other does: also where it is the last byte but one that a reader keeps.
+    for line in (good.ljust(LONGEST_LINE), good.ljust(LONGEST_LINE + 1)):
+        for tail in (b"\r", b"\r\r", b"\r more"):
+            yield line + tail
+            yield good
+    yield b"#".ljust(LONGEST_LINE, b"=")
+    yield b" " * LONGEST_LINE
+    yield good
+
+
+def many_lines():
+    """So many lines, and so many bytes, that a count or a number of reads that stops is seen."""
+    yield b"\n" * 70000 + b"piece"
+
+
+GROUPS = (
+    ("Spaces and tabs.", blanks),
+    ("Lines that end in CR LF, and CRs elsewhere.", carriage_returns),
+    ("Lines that give nothing, and lines that only look so.", silent_lines),
+    ("Commands that do not exist.", unknown_commands),
+    ("Too few words, and too many.", counts_of_words),
+    ("Numbers that are not decimal.", not_decimal),
+    ("Numbers in unusual dress: leading zeros, minus zero.", odd_but_decimal),
+    ("Numbers at the ends of 32 and 64 bits and past them.", ends_of_sizes),
+    ("Several faults in one line: the first is named.", first_fault),
+    ("Lines of 65536 bytes, and longer ones.", long_lines),
+    ("A fault after many lines.", many_lines),
+)

@@ -1,0 +1,149 @@
+-- Slopes that are built are fair to the pieces beside them, and a piece that is fair at both ends is monotone.
+use mathlib.Core.Path.{_≡_, refl, sym, _∙_, ap, ap₂, subst, subst₂, subst₃}
+use mathlib.Core.Logic.{⊎-elim}
+use mathlib.Core.List.{[], _∷_}
+use Prim.Native.Nat.{ℕ, zero, suc}
+use native.Mathlib.Omega.{arith}
+use lib.IntN.{ℤ, pos, negsuc, negℤ, _+ℤ_, _*ℤ_, *ℤ-comm}
+use lib.Signed.{_≤ℤ_, _<ℤ_}
+use Rattle.integers.specs.Promise.{floorOf, magnitude, withSign}
+use Rattle.integers.specs.Ring.{ring, quote}
+use Rattle.integers.specs.Linear.{lin, says}
+use Rattle.integers.specs.Order.{≤ℤ-or-<ℤ, signs, positives, 0<-suc, 0≤-number, 0≤-product, 0<-product, <ℤ→≤ℤ, ≤ℤ-antisym, ≤ℤ-trans}
+use Rattle.integers.specs.Signs.{0<-magnitude, same-sign}
+use Rattle.integers.specs.Division.{0≤-floor, floor-low, toward-scaled}
+use Rattle.integers.specs.Parts.{<-from}
+use Rattle.cubic.specs.Piece.{NeverAgainst, Monotone}
+use Rattle.cubic.specs.Monotone.{monotone-rising, monotone-falling, monotone-level}
+use Rattle.cubic.specs.Slopes.{endSlope, meanOver, mean, innerSlope}
+use Rattle.cubic.specs.Inner.{inner-level, inner-steep}
+use Rattle.cubic.specs.Built.{box-accepts, meanOver-mirrored, mean-in-box}
+
+-- a slope with the sign of the rise and at most three times as steep as the piece
+pub record Fair (U h z m : ℤ) : Type 0 where
+  pub size : ℤ
+  pub low : pos 0 ≤ℤ size
+  pub high : (size *ℤ h) ≤ℤ (pos 3 *ℤ (U *ℤ magnitude z))
+  pub signed : m ≡ withSign z size
+
+-- ---- fair at both ends
+
+never-against : {U h z m n : ℤ} → pos 0 <ℤ U → pos 0 <ℤ h → pos 0 <ℤ magnitude z → (f : Fair U h z m) (g : Fair U h z n) → NeverAgainst (U *ℤ magnitude z) (f .size *ℤ h) (g .size *ℤ h)
+never-against u₀ h₀ z₀ f g =
+    let h = <ℤ→≤ℤ h₀ in
+    box-accepts (0<-product u₀ z₀) (0≤-product (f .low) h) (0≤-product (g .low) h) (f .high) (g .high)
+
+negated-both : (x y : ℤ) → x *ℤ y ≡ negℤ (x *ℤ negℤ y)
+negated-both x y = ring (x ∷ y ∷ []) (search quote depth 30 fits 9000) tt
+
+pub fair-monotone : {U h z m n : ℤ} → pos 0 <ℤ U → pos 0 <ℤ h → Fair U h z m → Fair U h z n → Monotone U h z m n
+fair-monotone {U} {h} {z = pos zero} u₀ h₀ f g = monotone-level refl (level f) (level g)
+  where
+    nothing : (U : ℤ) → pos 3 *ℤ (U *ℤ pos 0) ≡ pos 0
+    nothing U = ring (U ∷ []) (search quote depth 30 fits 9000) tt
+
+    level : {m : ℤ} → Fair U h (pos 0) m → m *ℤ h ≡ pos 0
+    level f =
+        ap (λ (v : ℤ). v *ℤ h) (f .signed)
+        ∙ ≤ℤ-antisym (subst (λ (v : ℤ). (f .size *ℤ h) ≤ℤ v) (nothing U) (f .high)) (0≤-product (f .low) (<ℤ→≤ℤ h₀))
+fair-monotone {U} {h} {z = pos (suc k)} u₀ h₀ f g =
+    let z₀ = 0<-suc k in
+    monotone-rising z₀
+    (subst₂ (λ (m n : ℤ). NeverAgainst (U *ℤ pos (suc k)) (m *ℤ h) (n *ℤ h)) (sym (f .signed)) (sym (g .signed)) (never-against u₀ h₀ z₀ f g))
+fair-monotone {U} {h} {z = negsuc k} u₀ h₀ f g =
+    monotone-falling (below k)
+    (subst₃ NeverAgainst (negated-both U (pos (suc k))) (turned f) (turned g) (never-against u₀ h₀ (0<-suc k) f g))
+  where
+    below : (k : ℕ) → negsuc k <ℤ pos 0
+    below k = <-from (negsuc k) (pos 0) (omega arith)
+
+    turned : {m : ℤ} (f : Fair U h (negsuc k) m) → f .size *ℤ h ≡ negℤ (m *ℤ h)
+    turned f = *ℤ-comm (f .size) h ∙ negated-both h (f .size) ∙ ap negℤ (*ℤ-comm h (negℤ (f .size)) ∙ ap (λ (v : ℤ). v *ℤ h) (sym (f .signed)))
+
+-- ---- the end rule
+
+module _ {U h : ℤ} (u₀ : pos 0 <ℤ U) (h₀ : pos 0 <ℤ h) where
+  pub end-fair : (z : ℤ) → Fair U h z (endSlope U h z)
+  end-fair z =
+      record {
+        size = floorOf (U *ℤ magnitude z) h;
+        low = 0≤-floor h (0≤-product (<ℤ→≤ℤ u₀) (0≤-number _));
+        high = ≤ℤ-trans (floor-low (U *ℤ magnitude z) h₀) (three (0≤-product (<ℤ→≤ℤ u₀) (0≤-number _)));
+        signed = toward-scaled u₀ z h;
+      }
+    where
+      three : {x : ℤ} → pos 0 ≤ℤ x → x ≤ℤ (pos 3 *ℤ x)
+      three {x} = lin (x ∷ []) (search says depth 30 fits 9000) (omega arith)
+
+-- ---- no slope
+
+level-fair : {U : ℤ} → pos 0 <ℤ U → (h z : ℤ) → Fair U h z (pos 0)
+level-fair {U} u₀ h z =
+    record {
+      size = pos 0;
+      low = 0≤-number 0;
+      high = subst (λ (v : ℤ). v ≤ℤ (pos 3 *ℤ (U *ℤ magnitude z))) (sym (nothing h)) (0≤-product (0≤-number 3) (0≤-product (<ℤ→≤ℤ u₀) (0≤-number _)));
+      signed = unsigned z;
+    }
+  where
+    nothing : (h : ℤ) → pos 0 *ℤ h ≡ pos 0
+    nothing h = ring (h ∷ []) (search quote depth 30 fits 9000) tt
+
+    unsigned : (z : ℤ) → pos 0 ≡ withSign z (pos 0)
+    unsigned (pos n) = refl
+    unsigned (negsuc n) = refl
+
+-- ---- the mean
+
+mean-mirrored : (U h₁ z₁ h₂ z₂ : ℤ) → mean U h₁ z₁ h₂ z₂ ≡ mean U h₂ z₂ h₁ z₁
+mean-mirrored U h₁ z₁ h₂ z₂ = ap₂ floorOf (over U h₁ z₁ h₂ z₂) (meanOver-mirrored h₁ z₁ h₂ z₂)
+  where
+    over : (U h₁ z₁ h₂ z₂ : ℤ) → pos 3 *ℤ U *ℤ (h₁ +ℤ h₂) *ℤ z₁ *ℤ z₂ ≡ pos 3 *ℤ U *ℤ (h₂ +ℤ h₁) *ℤ z₂ *ℤ z₁
+    over U h₁ z₁ h₂ z₂ = ring (U ∷ h₁ ∷ z₁ ∷ h₂ ∷ z₂ ∷ []) (search quote depth 30 fits 9000) tt
+
+module _ {U h₁ h₂ : ℤ} (u₀ : pos 0 <ℤ U) (a : pos 0 <ℤ h₁) (b : pos 0 <ℤ h₂) where
+  -- what the mean of two rises is at least and at most
+  pub 0≤-mean : {z₁ z₂ : ℤ} → pos 0 <ℤ z₁ → pos 0 <ℤ z₂ → pos 0 ≤ℤ mean U h₁ z₁ h₂ z₂
+  0≤-mean {z₁} {z₂} p q =
+      let u = <ℤ→≤ℤ u₀ in
+      let c = <ℤ→≤ℤ a in
+      let d = <ℤ→≤ℤ b in
+      let e = <ℤ→≤ℤ p in
+      let f = <ℤ→≤ℤ q in 0≤-floor (meanOver h₁ z₁ h₂ z₂) (search signs depth 9 fits 9000)
+
+  pub mean-high : {z₁ z₂ : ℤ} → pos 0 <ℤ z₁ → pos 0 <ℤ z₂ → (mean U h₁ z₁ h₂ z₂ *ℤ h₁) ≤ℤ (pos 3 *ℤ (U *ℤ z₁))
+  mean-high {z₁} {z₂} p q =
+      mean-in-box {h₂ = h₂} {z₂ = z₂} (<ℤ→≤ℤ u₀) a p b q (0≤-mean p q) (floor-low (pos 3 *ℤ U *ℤ (h₁ +ℤ h₂) *ℤ z₁ *ℤ z₂) {d = meanOver h₁ z₁ h₂ z₂} (search positives depth 9 fits 9000))
+
+  -- it is fair to the piece on its left
+  pub inner-fair : (z₁ z₂ : ℤ) → Fair U h₁ z₁ (innerSlope U h₁ z₁ h₂ z₂)
+  inner-fair z₁ z₂ = ⊎-elim level steep (≤ℤ-or-<ℤ (z₁ *ℤ z₂) (pos 0))
+    where
+      level : (z₁ *ℤ z₂) ≤ℤ pos 0 → Fair U h₁ z₁ (innerSlope U h₁ z₁ h₂ z₂)
+      level p = subst (Fair U h₁ z₁) (inner-level U h₁ z₁ h₂ z₂ p) (level-fair u₀ h₁ z₁)
+
+      steep : pos 0 <ℤ (z₁ *ℤ z₂) → Fair U h₁ z₁ (innerSlope U h₁ z₁ h₂ z₂)
+      steep p =
+          let p₁ = 0<-magnitude z₁ z₂ p in
+          let p₂ = 0<-magnitude z₂ z₁ (subst (λ (v : ℤ). pos 0 <ℤ v) (*ℤ-comm z₁ z₂) p) in
+          record {
+            size = mean U h₁ (magnitude z₁) h₂ (magnitude z₂);
+            low = 0≤-mean p₁ p₂;
+            high = mean-high p₁ p₂;
+            signed = sym (inner-steep U h₁ z₁ h₂ z₂ p);
+          }
+
+-- and, read from the other side, to the one on its right
+pub inner-mirrored : (U h₁ z₁ h₂ z₂ : ℤ) → innerSlope U h₁ z₁ h₂ z₂ ≡ innerSlope U h₂ z₂ h₁ z₁
+inner-mirrored U h₁ z₁ h₂ z₂ = ⊎-elim level steep (≤ℤ-or-<ℤ (z₁ *ℤ z₂) (pos 0))
+  where
+    level : (z₁ *ℤ z₂) ≤ℤ pos 0 → innerSlope U h₁ z₁ h₂ z₂ ≡ innerSlope U h₂ z₂ h₁ z₁
+    level p =
+        sym (inner-level U h₁ z₁ h₂ z₂ p) ∙ inner-level U h₂ z₂ h₁ z₁ (subst (λ (v : ℤ). v ≤ℤ pos 0) (*ℤ-comm z₁ z₂) p)
+
+    steep : pos 0 <ℤ (z₁ *ℤ z₂) → innerSlope U h₁ z₁ h₂ z₂ ≡ innerSlope U h₂ z₂ h₁ z₁
+    steep p =
+        sym (inner-steep U h₁ z₁ h₂ z₂ p)
+        ∙ same-sign z₁ z₂ p (mean U h₁ (magnitude z₁) h₂ (magnitude z₂))
+        ∙ ap (withSign z₂) (mean-mirrored U h₁ (magnitude z₁) h₂ (magnitude z₂))
+        ∙ inner-steep U h₂ z₂ h₁ z₁ (subst (λ (v : ℤ). pos 0 <ℤ v) (*ℤ-comm z₁ z₂) p)

@@ -1,0 +1,19 @@
+-- `negwafir::lists::front` is safe: the length is within the list.
+use borrow.Author.Needs.{needs}
+use native.Mathlib.Omega.{arith}
+use mathlib.Core.Path.{sym}
+use lib.Seq.{length-take-le}
+use Rattle.negwafir.proofs.lists.front.Statement.{statement}
+use Rattle.negwafir.proofs.lists.front.Tie as tie
+
+returns : tie.Need-returns
+returns c = search needs
+
+slice-aggregate-result : tie.Need-slice-aggregate-result
+slice-aggregate-result c = sym (length-take-le _ _ (omega arith))
+
+returns-2 : tie.Need-returns-2
+returns-2 c = search needs
+
+pub front-spec : {M : Type 1} → statement M
+front-spec = tie.close (tie.spec returns slice-aggregate-result returns-2)

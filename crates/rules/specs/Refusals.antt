@@ -1,0 +1,16 @@
+-- How the exact rules choose a refusal's number and place, and what a refused call leaves. Whoever believes a promise about refusals believes this file.
+use Prim.Native.Nat.{ℕ, zero, suc, _<_}
+use mathlib.Core.List.{List, [], _∷_}
+use lib.IntN.{ℤ}
+
+-- "The number given is the first cause that holds in this order", and its place is the first at which it does; "0 | none, done | 0".
+-- `Holds c p` says that the cause with the number c holds at the place p.
+pub data Given (Holds : ℕ → ℕ → Type 0) : List ℕ → ℕ → ℕ → Type 0 where
+  done : Given Holds [] 0 0
+  refused : {c p : ℕ} {order : List ℕ} → Holds (suc c) p → ((q : ℕ) → q < p → Holds (suc c) q → ⊥) → Given Holds (suc c ∷ order) (suc c) p
+  passed : {c n p : ℕ} {order : List ℕ} → ((q : ℕ) → Holds c q → ⊥) → Given Holds order n p → Given Holds (c ∷ order) n p
+
+-- "A refused call writes to no list": what a list holds after a call that answers this number and writes `new` over `old` if it is done.
+abbrev pub afterwards : ℕ → (old new : List ℤ) → List ℤ
+afterwards zero old new = new
+afterwards (suc number) old new = old

@@ -1,0 +1,140 @@
+-- `slopes::point::slope` meets its contract: the pieces beside a point of an accepted table are within the limits.
+use mathlib.Core.Path.{_≡_, sym, _∙_, ap₂, subst₂}
+use mathlib.Core.List.{List}
+use Prim.Native.Nat.{ℕ, _+_, _-_, _<_}
+use native.Mathlib.Omega.{arith}
+use lib.IntN.{ℤ}
+use lib.ListN.{length}
+use mir.Syntax.{w64}
+use mir.Val.{toZ, ofZ}
+use mir.Facts.{toZ-ofZ}
+use borrow.Author.Needs.{needs}
+use Rattle.cubic.specs.Piece.{unit}
+use Rattle.cubic.specs.Slopes.{endSlope, innerSlope}
+use Rattle.table.specs.Table.{step}
+use Rattle.table.specs.Accepted.{Points}
+use Rattle.slopes.specs.Sizes.{Within}
+use Rattle.slopes.specs.Cases.{first-slope, last-slope, inner-slope}
+use Rattle.slopes.proofs.point.slope.Statement.{statement}
+use Rattle.slopes.proofs.point.slope.Tie as tie
+
+-- piece i as the code has it
+piece-within : {ks vs : List ℤ} {h z : ℤ} (i : ℕ) → Points ks vs → i + 1 < length ks → h ≡ step ks i → z ≡ step vs i → Within h z
+piece-within i p l e f = subst₂ Within (sym e) (sym f) (record { width = p .widths i l; rise = p .rises i l })
+
+-- ---- the first point
+
+step-requires : tie.Need-step-requires
+step-requires c κs = search needs
+
+step-requires-2 : tie.Need-step-requires-2
+step-requires-2 c κs = search needs
+
+first-width : (c : tie.After-step) → toZ w64 (ofZ w64 (c .step .result)) ≡ step (c .before .before .args .knots .now) 0
+first-width c = toZ-ofZ (record { sfits = c .step .ok }) ∙ c .step .ensures
+
+first-rise : (c : tie.After-step2) → toZ w64 (ofZ w64 (c .step2 .result)) ≡ step (c .before .before .before .args .values .now) 0
+first-rise c = toZ-ofZ (record { sfits = c .step2 .ok }) ∙ c .step2 .ensures
+
+end-requires : tie.Need-end-requires
+end-requires c κs =
+    let p = c .before .before .before .pre .0 in
+    piece-within 0 p (omega (arith, p .count .low)) (first-width (c .before)) (first-rise c)
+
+returns : tie.Need-returns
+returns c =
+    let s = c .before .before .before .before .args in
+    toZ-ofZ (record { sfits = c .end .ok })
+    ∙ c .end .ensures
+    ∙ ap₂ (endSlope unit) (first-width (c .before .before)) (first-rise (c .before))
+    ∙ first-slope (s .knots .now) (s .values .now) (s .i) (c .before .before .before .if1 .taken)
+
+-- ---- the last point
+
+sub-left : tie.Need-sub-left
+sub-left c = search needs
+
+step-requires-3 : tie.Need-step-requires-3
+step-requires-3 c κs = search needs
+
+step-requires-4 : tie.Need-step-requires-4
+step-requires-4 c κs = search needs
+
+sub-if2 : tie.Need-sub-if2
+sub-if2 c = search needs
+
+left-width : (c : tie.After-step3) → toZ w64 (ofZ w64 (c .step3 .result)) ≡ step (c .before .before .args .knots .now) (c .before .before .args .i - 1)
+left-width c = toZ-ofZ (record { sfits = c .step3 .ok }) ∙ c .step3 .ensures
+
+left-rise : (c : tie.After-step4) → toZ w64 (ofZ w64 (c .step4 .result)) ≡ step (c .before .before .before .args .values .now) (c .before .before .before .args .i - 1)
+left-rise c = toZ-ofZ (record { sfits = c .step4 .ok }) ∙ c .step4 .ensures
+
+left-within : (c : tie.After-step4) → Within (toZ w64 (ofZ w64 (c .before .step3 .result))) (toZ w64 (ofZ w64 (c .step4 .result)))
+left-within c =
+    let s = c .before .before .before in
+    piece-within (s .args .i - 1) (s .pre .0) (omega (arith, s .pre .1, c .before .before .if1 .left)) (left-width (c .before)) (left-rise c)
+
+end-requires-2 : tie.Need-end-requires-2
+end-requires-2 c κs = left-within (c .before)
+
+returns-2 : tie.Need-returns-2
+returns-2 c =
+    let s = c .before .before .before .before .before .args in
+    toZ-ofZ (record { sfits = c .end2 .ok })
+    ∙ c .end2 .ensures
+    ∙ ap₂ (endSlope unit) (left-width (c .before .before .before)) (left-rise (c .before .before))
+    ∙ last-slope (s .knots .now) (s .values .now) (s .i) (c .before .before .before .before .if1 .left) (omega (arith, c .before .if2 .taken))
+
+-- ---- any other
+
+step-requires-5 : tie.Need-step-requires-5
+step-requires-5 c κs = search needs
+
+step-requires-6 : tie.Need-step-requires-6
+step-requires-6 c κs = search needs
+
+right-width : (c : tie.After-step5) → toZ w64 (ofZ w64 (c .step5 .result)) ≡ step (c .before .before .before .before .before .args .knots .now) (c .before .before .before .before .before .args .i)
+right-width c = toZ-ofZ (record { sfits = c .step5 .ok }) ∙ c .step5 .ensures
+
+right-rise : (c : tie.After-step6) → toZ w64 (ofZ w64 (c .step6 .result)) ≡ step (c .before .before .before .before .before .before .args .values .now) (c .before .before .before .before .before .before .args .i)
+right-rise c = toZ-ofZ (record { sfits = c .step6 .ok }) ∙ c .step6 .ensures
+
+inner-point : (c : tie.Else2) → c .before .before .before .before .args .i + 1 < length (c .before .before .before .before .args .knots .now)
+inner-point c = omega (arith, c .if2 .left)
+
+inner-requires : tie.Need-inner-requires
+inner-requires c κs =
+    let s = c .before .before .before .before .before .before in
+    (left-within (c .before .before .before), piece-within (s .args .i) (s .pre .0) (inner-point (c .before .before)) (right-width (c .before)) (right-rise c))
+
+returns-3 : tie.Need-returns-3
+returns-3 c =
+    let d = c .before .before .before .before in
+    let s = d .before .before .before .args in
+    toZ-ofZ (record { sfits = c .inner .ok })
+    ∙ c .inner .ensures
+    ∙ same-pieces (left-width (d .before)) (left-rise d) (right-width (c .before .before)) (right-rise (c .before))
+    ∙ inner-slope (s .knots .now) (s .values .now) (s .i) (d .before .before .if1 .left) (inner-point (c .before .before .before))
+  where
+    same-pieces : {h₁ z₁ h₂ z₂ k₁ y₁ k₂ y₂ : ℤ} → h₁ ≡ k₁ → z₁ ≡ y₁ → h₂ ≡ k₂ → z₂ ≡ y₂ → innerSlope unit h₁ z₁ h₂ z₂ ≡ innerSlope unit k₁ y₁ k₂ y₂
+    same-pieces {h₂ = h₂} {z₂ = z₂} {k₁ = k₁} {y₁ = y₁} a b c d =
+        ap₂ (λ (h z : ℤ). innerSlope unit h z h₂ z₂) a b ∙ ap₂ (λ (h z : ℤ). innerSlope unit k₁ y₁ h z) c d
+
+pub slope-spec : {M : Type 1} → statement M
+slope-spec =
+    tie.close
+    (tie.spec
+    step-requires
+    step-requires-2
+    end-requires
+    returns
+    sub-left
+    step-requires-3
+    step-requires-4
+    sub-if2
+    end-requires-2
+    returns-2
+    step-requires-5
+    step-requires-6
+    inner-requires
+    returns-3)

@@ -1,0 +1,128 @@
+-- `slopes::rule::inner` meets its contract: each way through the code is one case of the rule.
+use mathlib.Core.Path.{_≡_, sym, _∙_, ap, subst}
+use mathlib.Core.List.{List, [], _∷_}
+use native.Mathlib.Omega.{arith}
+use lib.IntN.{ℤ, pos, negsuc, negℤ, _*ℤ_}
+use lib.Signed.{_≤ℤ_, _<ℤ_}
+use mir.Facts.{toZ-ofZ}
+use Rattle.integers.specs.Linear.{lin, says}
+use Rattle.integers.specs.Within as size
+use Rattle.integers.specs.Sizes.{Known, known, fits, plain-is, code}
+use Rattle.integers.specs.Tests.{tests, passed, failed}
+use Rattle.integers.specs.Arguments.{arguments, plainly₄, as-coded₂}
+use Rattle.cubic.specs.Piece.{unit}
+use Rattle.cubic.specs.Slopes.{mean}
+use Rattle.cubic.specs.Inner.{inner-level, both-up, inner-up, both-down, inner-down}
+use Rattle.rules.specs.Limits.{RiseWithin}
+use Rattle.rules.specs.Known.{known-width, known-rise}
+use Rattle.slopes.specs.Sizes.{Within, Up, Mean, mean-within}
+use Rattle.slopes.proofs.rule.inner.Statement.{statement}
+use Rattle.slopes.proofs.rule.inner.Tie as tie
+
+abbrev given : tie.Start → List Known
+given s =
+    known-width (s .args .h1) (s .pre .0 .width)
+    ∷ known-rise (s .args .z1) (s .pre .0 .rise)
+    ∷ known-width (s .args .h2) (s .pre .1 .width)
+    ∷ known-rise (s .args .z2) (s .pre .1 .rise)
+    ∷ []
+
+mul-if1 : tie.Need-mul-if1
+mul-if1 c = fits (given c) (search code depth 30 fits 9000) tt
+
+returns : tie.Need-returns
+returns c =
+    let s = c .before in
+    inner-level unit (s .args .h1) (s .args .z1) (s .args .h2) (s .args .z2) (passed (given s) (c .if1 .taken) (search tests depth 30 fits 9000) tt)
+
+product : (c : tie.Else1) → let s = c .before .args in pos 0 <ℤ (s .z1 *ℤ s .z2)
+product c = failed (given (c .before)) (c .if1 .left) (search tests depth 30 fits 9000) tt
+
+-- ---- two falls
+
+sub-mean : tie.Need-sub-mean
+sub-mean c = fits (given (c .before .before)) (search code depth 30 fits 9000) tt
+
+sub-mean-2 : tie.Need-sub-mean-2
+sub-mean-2 c = fits (given (c .before .before)) (search code depth 30 fits 9000) tt
+
+down : (c : tie.Then2) → c .before .before .args .z1 <ℤ pos 0
+down c = passed (given (c .before .before)) (c .if2 .taken) (search tests depth 30 fits 9000) tt
+
+-- what falls within the limits rises within them, turned over
+over : {h z : ℤ} → Within h z → pos 0 <ℤ negℤ z → Up h (negℤ z)
+over {h} {z} w u = record { within = record { width = w .width; rise = turned (w .rise) }; up = u }
+  where
+    turned : {z : ℤ} → RiseWithin z → RiseWithin (negℤ z)
+    turned {z} r = record { low = least (r .high); high = most (r .low) }
+      where
+        least : {z : ℤ} → z ≤ℤ pos 1048576 → negsuc 1048575 ≤ℤ negℤ z
+        least {z} = lin (z ∷ []) (search says depth 30 fits 9000) (omega arith)
+
+        most : {z : ℤ} → negsuc 1048575 ≤ℤ z → negℤ z ≤ℤ pos 1048576
+        most {z} = lin (z ∷ []) (search says depth 30 fits 9000) (omega arith)
+
+falls : (c : tie.Then2) → let s = c .before .before .args in Up (s .h1) (negℤ (s .z1)) × Up (s .h2) (negℤ (s .z2))
+falls c =
+    let s = c .before .before in
+    let u = both-down unit (s .args .h1) (s .args .z1) (s .args .h2) (s .args .z2) (product (c .before)) (down c) in
+    (over (s .pre .0) (u .0), over (s .pre .1) (u .1))
+
+mean-requires : tie.Need-mean-requires
+mean-requires c κs =
+    let Γ = given (c .before .before) in
+    (as-coded₂ Γ Up (search arguments depth 30 fits 9000) tt (falls c .0), as-coded₂ Γ Up (search arguments depth 30 fits 9000) tt (falls c .1))
+
+fallen : (c : tie.After-mean) → let s = c .before .before .before .args in c .mean .result ≡ mean unit (s .h1) (negℤ (s .z1)) (s .h2) (negℤ (s .z2))
+fallen c =
+    plainly₄ (given (c .before .before .before)) (λ (h₁ z₁ h₂ z₂ : ℤ). Mean h₁ z₁ h₂ z₂ (c .mean .result)) (c .mean .ensures) (search arguments depth 30 fits 9000) tt .is
+
+small : (c : tie.After-mean) → size.Within 805306368 (c .mean .result)
+small c = subst (size.Within 805306368) (sym (fallen c)) (mean-within (falls (c .before) .0) (falls (c .before) .1))
+
+abbrev steepness : tie.After-mean → List Known
+steepness c = known (c .mean .result) 805306368 (small c) ∷ []
+
+sub-result : tie.Need-sub-result
+sub-result c = fits (steepness c) (search code depth 30 fits 9000) tt
+
+returns-2 : tie.Need-returns-2
+returns-2 c =
+    let s = c .before .before .before .args in
+    plain-is {Γ = steepness c} (search code depth 30 fits 9000) tt
+    ∙ ap negℤ (fallen c)
+    ∙ inner-down unit (s .h1) (s .z1) (s .h2) (s .z2) (product (c .before .before)) (down (c .before))
+
+-- ---- two rises
+
+up : (c : tie.Else2) → pos 0 ≤ℤ c .before .before .args .z1
+up c = failed (given (c .before .before)) (c .if2 .left) (search tests depth 30 fits 9000) tt
+
+mean-requires-2 : tie.Need-mean-requires-2
+mean-requires-2 c κs =
+    let s = c .before .before in
+    let u = both-up unit (s .args .h1) (s .args .z1) (s .args .h2) (s .args .z2) (product (c .before)) (up c) in (
+      as-coded₂ (given s) Up (search arguments depth 30 fits 9000) tt (record { within = s .pre .0; up = u .0 }),
+      as-coded₂ (given s) Up (search arguments depth 30 fits 9000) tt (record { within = s .pre .1; up = u .1 }),
+    )
+
+returns-3 : tie.Need-returns-3
+returns-3 c =
+    let s = c .before .before .before in
+    toZ-ofZ (record { sfits = c .mean2 .ok })
+    ∙ plainly₄ (given s) (λ (h₁ z₁ h₂ z₂ : ℤ). Mean h₁ z₁ h₂ z₂ (c .mean2 .result)) (c .mean2 .ensures) (search arguments depth 30 fits 9000) tt .is
+    ∙ inner-up unit (s .args .h1) (s .args .z1) (s .args .h2) (s .args .z2) (product (c .before .before)) (up (c .before))
+
+pub inner-spec : {M : Type 1} → statement M
+inner-spec =
+    tie.close
+    (tie.spec
+    mul-if1
+    returns
+    sub-mean
+    sub-mean-2
+    mean-requires
+    sub-result
+    returns-2
+    mean-requires-2
+    returns-3)

@@ -1,0 +1,50 @@
+-- `slopes::build` meets its contract: what no cause refuses is written from the first point to the last.
+use mathlib.Core.Path.{_∙_}
+use native.Mathlib.Omega.{arith}
+use borrow.Author.Needs.{needs}
+use Rattle.rules.specs.Order.{clear, kept, replaced}
+use Rattle.table.specs.Accepted.{accepted-points, same-lengths}
+use Rattle.slopes.specs.Slopes.{builtSlope, builtSlopes}
+use Rattle.slopes.specs.Put.{put-all}
+use Rattle.slopes.proofs.whole.build.Statement.{statement}
+use Rattle.slopes.proofs.whole.build.Tie as tie
+
+points-requires : tie.Need-points-requires
+points-requires c κs = search needs
+
+same-length : tie.Need-same-length
+same-length c = search needs
+
+returns : tie.Need-returns
+returns c =
+    let s = c .before .before .before .before .args in
+    record {
+      refusal = c .before .before .points .ensures;
+      slopes = kept (s .slopes .now) (builtSlopes (s .knots .now) (s .values .now)) (c .if1 .taken);
+    }
+
+renew-requires : tie.Need-renew-requires
+renew-requires c κs =
+    let given = c .before .before .before .points .ensures in
+    let done = c .before .if1 .left in
+    (accepted-points done given, (same-lengths (clear done given) .slopes, (omega arith, omega arith)))
+
+same-length-2 : tie.Need-same-length-2
+same-length-2 c = search needs
+
+returns-2 : tie.Need-returns-2
+returns-2 c =
+    let s = c .before .before .before .before .before .before .before .args in
+    let given = c .before .before .before .before .before .points .ensures in
+    let done = c .before .before .before .if1 .left in
+    record {
+      refusal = given;
+      slopes =
+          c .before .renew .ensures
+          ∙ put-all (builtSlope (s .knots .now) (s .values .now)) (s .slopes .now) _ (same-lengths (clear done given) .slopes)
+          ∙ replaced (s .slopes .now) (builtSlopes (s .knots .now) (s .values .now)) done;
+    }
+
+pub build-spec : {M : Type 1} → statement M
+build-spec =
+    tie.close (tie.spec points-requires same-length returns renew-requires same-length-2 returns-2)

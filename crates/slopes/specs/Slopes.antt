@@ -1,0 +1,39 @@
+-- "Slopes that are built" of the exact rules, for a whole table. Whoever believes the promise of `build` believes this file, the rules for one point
+-- that it cites, and the refusals.
+use mathlib.Core.Path.{_≡_}
+use mathlib.Core.Bool.{cond}
+use mathlib.Core.List.{List, [], _∷_}
+use Prim.Native.Nat.{ℕ, zero, suc, _+_, _-_}
+use lib.Dec.{eqb, ltb}
+use lib.IntN.{ℤ}
+use lib.ListN.{length}
+use Rattle.cubic.specs.Piece.{unit}
+use Rattle.cubic.specs.Slopes.{endSlope, innerSlope}
+use Rattle.rules.specs.Refusals.{Given, afterwards}
+use Rattle.table.specs.Table.{table, step, Holds, buildOrder}
+
+module _ (ks vs : List ℤ) where
+  -- the end rule for piece i, and the rule for the point between piece i and piece j
+  abbrev pub endAt : ℕ → ℤ
+  endAt i = endSlope unit (step ks i) (step vs i)
+
+  abbrev pub innerAt : (i j : ℕ) → ℤ
+  innerAt i j = innerSlope unit (step ks i) (step vs i) (step ks j) (step vs j)
+
+  -- "End points take the slope of the end piece [..]. An inner point has pieces h1, z1 on its left and h2, z2 on its right."
+  abbrev pub builtSlope : ℕ → ℤ
+  builtSlope i = cond (eqb i 0) (endAt 0) (cond (ltb (i + 1) (length ks)) (innerAt (i - 1) i) (endAt (i - 1)))
+
+-- the list of the n entries f 0, f 1, .. f (n − 1)
+abbrev pub tab : ℕ → (ℕ → ℤ) → List ℤ
+tab zero f = []
+tab (suc n) f = f 0 ∷ tab n (λ i. f (suc i))
+
+-- the slope at every point
+abbrev pub builtSlopes : (ks vs : List ℤ) → List ℤ
+builtSlopes ks vs = tab (length ks) (builtSlope ks vs)
+
+-- What `build` answers and leaves: the first cause of a refusal in the order 1, 2, 3, 4 and the slopes as they were, or none and the built ones.
+pub record Built (knots values before after : List ℤ) (number place : ℕ) : Type 0 where
+  pub refusal : Given (Holds (table knots values before)) buildOrder number place
+  pub slopes : after ≡ afterwards number before (builtSlopes knots values)

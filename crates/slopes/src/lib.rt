@@ -1,0 +1,6 @@
+// Slopes that are built: Fritsch and Butland's mean at inner points, the end piece's own slope at the ends.
+mod point;
+mod rule;
+mod whole;
+
+pub use whole::build;

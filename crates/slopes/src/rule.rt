@@ -1,0 +1,39 @@
+// The slope at a point, from the pieces beside it.
+ghost use mathlib.Core.Path.{_≡_};
+ghost use Rattle.cubic.specs.Piece.{unit};
+ghost use Rattle.cubic.specs.Slopes.{endSlope, innerSlope};
+ghost use Rattle.slopes.specs.Sizes.{Within, Up, Mean};
+
+// At an end of the table: the slope of the end piece, rounded toward zero.
+pub fn end(h: i64, z: i64) -> i32
+    requires { ⌜ Within h z ⌝ }
+    ensures { λ r. ⌜ r ≡ endSlope unit h z ⌝ }
+{
+    integers::toward_zero(rules::UNIT * z, h) as i32
+}
+
+// Between two rises: their slopes' mean, rounded down. Within the limits the product above stays below 2^61, and the mean below 2^30.
+fn mean(h1: i64, z1: i64, h2: i64, z2: i64) -> i32
+    requires { ⌜ Up h1 z1 ⌝ }
+    requires { ⌜ Up h2 z2 ⌝ }
+    ensures { λ r. ⌜ Mean h1 z1 h2 z2 r ⌝ }
+{
+    let above = 3 * rules::UNIT * (h1 + h2) * z1 * z2;
+    let below = (h1 + 2 * h2) * h1 * z2 + (2 * h1 + h2) * h2 * z1;
+    integers::toward_zero(above, below) as i32
+}
+
+// At an inner point, with the piece h1, z1 on its left and h2, z2 on its right.
+pub fn inner(h1: i64, z1: i64, h2: i64, z2: i64) -> i32
+    requires { ⌜ Within h1 z1 ⌝ }
+    requires { ⌜ Within h2 z2 ⌝ }
+    ensures { λ r. ⌜ r ≡ innerSlope unit h1 z1 h2 z2 ⌝ }
+{
+    if z1 * z2 <= 0 {
+        return 0;
+    }
+    if z1 < 0 {
+        return -mean(h1, -z1, h2, -z2);
+    }
+    mean(h1, z1, h2, z2)
+}

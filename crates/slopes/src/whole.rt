@@ -1,0 +1,17 @@
+// The slopes of a whole table.
+ghost use Rattle.slopes.specs.Slopes.{Built};
+use crate::point;
+use rules::Refusal;
+
+// Builds the slopes of the points into `slopes`, whatever it held, and answers 0 at place 0; or answers the first cause of a refusal, in the order
+// 1, 2, 3, 4, and its first place, and writes nothing.
+pub fn build(knots: &[i32], values: &[i32], slopes: &mut [i32]) -> Refusal
+    ensures { λ r. ⌜ Built (now (knots .entry)) (now (values .entry)) (now (slopes .entry)) (now (slopes .exit)) (r .number) (r .place) ⌝ }
+{
+    let refusal = table::points(knots, values, slopes);
+    if refusal.number != rules::DONE {
+        return refusal;
+    }
+    point::renew(knots, values, slopes, 0, knots.len());
+    refusal
+}

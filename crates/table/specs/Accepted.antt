@@ -1,0 +1,70 @@
+-- What is known of points that no cause of a refusal holds of.
+use mathlib.Core.Path.{_≡_}
+use mathlib.Core.List.{List}
+use Prim.Native.Nat.{ℕ, _+_, _≤_, _<_}
+use native.Mathlib.Omega.{arith}
+use lib.IntN.{ℤ}
+use lib.ListN.{length}
+use Rattle.integers.specs.Decided.{stable, between-or-not}
+use Rattle.rules.specs.Limits.{CountWithin, WidthWithin, RiseWithin}
+use Rattle.rules.specs.Refusals.{Given, done, passed}
+use Rattle.rules.specs.Order.{clear, rest}
+use Rattle.table.specs.Table.{Table, table, step, points, SameLengths, Holds, lengths-differ, too-few-or-many, width-outside, rise-outside, buildOrder}
+
+-- as many values as knots, in number, width and rise within the limits
+pub record Points (ks vs : List ℤ) : Type 0 where
+  pub lengths : length vs ≡ length ks
+  pub count : CountWithin (length ks)
+  pub widths : (i : ℕ) → i + 1 < length ks → WidthWithin (step ks i)
+  pub rises : (i : ℕ) → i + 1 < length ks → RiseWithin (step vs i)
+
+at-most : {m n : ℕ} → (m < n → ⊥) → n ≤ m
+at-most f = omega arith
+
+equal : {m n : ℕ} → ((m ≡ n → ⊥) → ⊥) → m ≡ n
+equal {m} {n} f =
+    let a = at-most (λ (l : m < n). f (λ (e : m ≡ n). omega arith)) in
+    let b = at-most (λ (l : n < m). f (λ (e : m ≡ n). omega arith)) in omega arith
+
+counted : {n : ℕ} → ((CountWithin n → ⊥) → ⊥) → CountWithin n
+counted {n} f =
+    record {
+      low = at-most (λ (l : n < 2). f (λ (w : CountWithin n). omega (arith, w .low)));
+      high = at-most (λ (l : 1024 < n). f (λ (w : CountWithin n). omega (arith, w .high)));
+    }
+
+pub same-lengths : {t : Table} → ((q : ℕ) → Holds t 1 q → ⊥) → SameLengths t
+same-lengths {t} f =
+    record {
+      values = equal (λ g. f 0 (lengths-differ (λ (s : SameLengths t). g (s .values))));
+      slopes = equal (λ g. f 0 (lengths-differ (λ (s : SameLengths t). g (s .slopes))));
+    }
+
+pub accepted-points : {ks vs ss : List ℤ} {n p : ℕ} → n ≡ 0 → Given (Holds (table ks vs ss)) buildOrder n p → Points ks vs
+accepted-points e g =
+    let after-1 = rest e g in
+    let after-2 = rest e after-1 in
+    record {
+      lengths = same-lengths (clear e g) .values;
+      count = counted (λ f. clear e after-1 0 (too-few-or-many f));
+      widths = λ i l. stable (between-or-not _ _ _) (λ f. clear e after-2 i (width-outside l f));
+      rises = λ i l. stable (between-or-not _ _ _) (λ f. clear e (rest e after-2) i (rise-outside l f));
+    }
+
+-- ---- and the other way round
+
+pub same-length-passes : {t : Table} → SameLengths t → (q : ℕ) → Holds t 1 q → ⊥
+same-length-passes s _ (lengths-differ f) = f s
+
+pub count-passes : {t : Table} → CountWithin (points t) → (q : ℕ) → Holds t 2 q → ⊥
+count-passes w _ (too-few-or-many f) = f w
+
+pub points-accepted : {ks vs ss : List ℤ} → Points ks vs → length ss ≡ length ks → Given (Holds (table ks vs ss)) buildOrder 0 0
+points-accepted {ks} {vs} {ss} p e =
+    passed (same-length-passes (record { values = p .lengths; slopes = e })) (passed (count-passes (p .count)) (passed widths (passed rises done)))
+  where
+    widths : (q : ℕ) → Holds (table ks vs ss) 3 q → ⊥
+    widths q (width-outside l f) = f (p .widths q l)
+
+    rises : (q : ℕ) → Holds (table ks vs ss) 4 q → ⊥
+    rises q (rise-outside l f) = f (p .rises q l)

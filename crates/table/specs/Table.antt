@@ -1,0 +1,50 @@
+-- The exact rules' definitions for a table, and when each cause of a refusal holds of it. Whoever believes a promise about tables believes this file.
+use mathlib.Core.Path.{_≡_}
+use mathlib.Core.List.{List, [], _∷_}
+use Prim.Native.Nat.{ℕ, _+_, _<_}
+use lib.IntN.{ℤ, pos, _-ℤ_}
+use lib.ListN.{length, getD}
+use Rattle.cubic.specs.Piece.{unit, Monotone}
+use Rattle.rules.specs.Limits.{CountWithin, WidthWithin, RiseWithin}
+
+-- "A table is three lent lists [..]: knots [..], values [..] and slopes. Entry i of each belongs to point i."
+pub record Table : Type 0 where
+  pub knots : List ℤ
+  pub values : List ℤ
+  pub slopes : List ℤ
+
+abbrev pub table : (knots values slopes : List ℤ) → Table
+table ks vs ss = record { knots = ks; values = vs; slopes = ss }
+
+abbrev pub entry : List ℤ → ℕ → ℤ
+entry list i = getD list i (pos 0)
+
+-- "Piece i runs from point i to point i+1. [..] width h = right knot − left knot, rise z = right value − left value"
+abbrev pub step : List ℤ → ℕ → ℤ
+step list i = entry list (i + 1) -ℤ entry list i
+
+module _ (t : Table) where
+  abbrev pub points : ℕ
+  points = length (t .knots)
+
+  pub record SameLengths : Type 0 where
+    pub values : length (t .values) ≡ points
+    pub slopes : length (t .slopes) ≡ points
+
+  abbrev pub MonotoneAt : ℕ → Type 0
+  MonotoneAt i = Monotone unit (step (t .knots) i) (step (t .values) i) (entry (t .slopes) i) (entry (t .slopes) (i + 1))
+
+  -- The table of "Refusal numbers": the cause with this number holds at this place.
+  pub data Holds : ℕ → ℕ → Type 0 where
+    lengths-differ : (SameLengths → ⊥) → Holds 1 0
+    too-few-or-many : (CountWithin points → ⊥) → Holds 2 0
+    width-outside : {i : ℕ} → i + 1 < points → (WidthWithin (step (t .knots) i) → ⊥) → Holds 3 i
+    rise-outside : {i : ℕ} → i + 1 < points → (RiseWithin (step (t .values) i) → ⊥) → Holds 4 i
+    not-monotone : {i : ℕ} → i + 1 < points → (MonotoneAt i → ⊥) → Holds 5 i
+
+-- "build: 1, 2, 3, 4"; "table check: 1, 2, 3, 4, 5"
+abbrev pub buildOrder : List ℕ
+buildOrder = 1 ∷ 2 ∷ 3 ∷ 4 ∷ []
+
+abbrev pub checkOrder : List ℕ
+checkOrder = 1 ∷ 2 ∷ 3 ∷ 4 ∷ 5 ∷ []

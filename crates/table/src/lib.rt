@@ -1,0 +1,7 @@
+// The table of a curve: three lists, of which entry i belongs to point i, and why one is refused. Piece i runs from point i to point i + 1.
+mod pieces;
+mod refusals;
+mod search;
+
+pub use pieces::step;
+pub use refusals::points;

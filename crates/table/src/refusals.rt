@@ -1,0 +1,50 @@
+// The causes of a refusal that are asked of every table, in the order of the exact rules.
+ghost use mathlib.Core.List.{[], _∷_};
+ghost use Rattle.rules.specs.Refusals.{Given};
+ghost use Rattle.table.specs.Table.{table, Holds, buildOrder};
+use crate::search;
+use crate::search::Cause;
+use rules::Refusal;
+
+// 1 and 2: the lists' lengths, and the number of points.
+fn lengths(knots: &[i32], values: &[i32], slopes: &[i32]) -> Refusal
+    ensures { λ r. ⌜ Given (Holds (table (now (knots .entry)) (now (values .entry)) (now (slopes .entry)))) (1 ∷ 2 ∷ []) (r .number) (r .place) ⌝ }
+{
+    if values.len() != knots.len() {
+        return Refusal {
+            number: rules::LENGTHS,
+            place: 0,
+        };
+    }
+    if slopes.len() != knots.len() {
+        return Refusal {
+            number: rules::LENGTHS,
+            place: 0,
+        };
+    }
+    if !rules::count_within(knots.len()) {
+        return Refusal {
+            number: rules::COUNT,
+            place: 0,
+        };
+    }
+    Refusal {
+        number: rules::DONE,
+        place: 0,
+    }
+}
+
+// 1, 2, 3 and 4: what is asked of the points. The slopes are counted and not read.
+pub fn points(knots: &[i32], values: &[i32], slopes: &[i32]) -> Refusal
+    ensures { λ r. ⌜ Given (Holds (table (now (knots .entry)) (now (values .entry)) (now (slopes .entry)))) buildOrder (r .number) (r .place) ⌝ }
+{
+    let counted = lengths(knots, values, slopes);
+    if counted.number != rules::DONE {
+        return counted;
+    }
+    let width = search::first(Cause::Width, knots, values);
+    if width.number != rules::DONE {
+        return width;
+    }
+    search::first(Cause::Rise, knots, values)
+}

@@ -1,0 +1,58 @@
+// The one search for a faulty piece, whatever the cause.
+ghost use mathlib.Core.Path.{_≡_};
+ghost use Prim.Native.Nat.{_+_, _<_};
+ghost use lib.ListN.{length};
+ghost use Rattle.integers.specs.Promise.{Decided};
+ghost use Rattle.table.specs.Search.{numberOf, Sound, Found};
+use crate::pieces;
+use rules::Refusal;
+
+// What is asked of each piece.
+pub enum Cause {
+    Width,
+    Rise,
+}
+
+fn number(cause: Cause) -> u32
+    ensures { λ r. ⌜ r ≡ numberOf cause ⌝ }
+{
+    match cause {
+        Cause::Width => rules::WIDTH,
+        Cause::Rise => rules::RISE,
+    }
+}
+
+fn is_sound(cause: Cause, knots: &[i32], values: &[i32], i: usize) -> bool
+    requires { ⌜ i + 1 < length (now knots) ⌝ }
+    requires { ⌜ length (now values) ≡ length (now knots) ⌝ }
+    ensures { λ r. ⌜ Decided (Sound cause (now (knots .entry)) (now (values .entry)) i) r ⌝ }
+{
+    match cause {
+        Cause::Width => rules::width_within(pieces::step(knots, i)),
+        Cause::Rise => rules::rise_within(pieces::step(values, i)),
+    }
+}
+
+// The refusal by this cause, at the first piece at which it holds, or none. The slopes are not asked, whatever they are.
+pub fn first(cause: Cause, knots: &[i32], values: &[i32]) -> Refusal
+    requires { ⌜ length (now values) ≡ length (now knots) ⌝ }
+    ensures { λ r. ⌜ Found cause (now (knots .entry)) (now (values .entry)) (r .number) (r .place) ⌝ }
+{
+    let mut i = 0;
+    let at = loop {
+        if knots.len() - i < 2 {
+            return Refusal {
+                number: rules::DONE,
+                place: 0,
+            };
+        }
+        if !is_sound(cause, knots, values, i) {
+            break i;
+        }
+        i += 1;
+    };
+    Refusal {
+        number: number(cause),
+        place: at,
+    }
+}
