@@ -33,7 +33,7 @@ in-list : (c : tie.In-loop Inv-loop μ-loop) → c .before .loop .i < length (c 
 in-list c = omega (arith, c .loop-test .taken, c .before .before .pre .1 .1 .1)
 
 slope-requires : tie.Need-slope-requires Inv-loop μ-loop
-slope-requires c κs = (c .before .before .pre .0, in-list c)
+slope-requires c κs = (c .before .before .pre .0, omega (arith, in-list c, c .before .loop .inv .0))
 
 mul-t9 : tie.Need-mul-t9 Inv-loop μ-loop
 mul-t9 c = let l = in-list (c .before) in search needs

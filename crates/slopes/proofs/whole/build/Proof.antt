@@ -27,7 +27,8 @@ renew-requires : tie.Need-renew-requires
 renew-requires c κs =
     let given = c .before .before .before .points .ensures in
     let done = c .before .if1 .left in
-    (accepted-points done given, (same-lengths (clear done given) .slopes, (omega arith, omega arith)))
+    let points = accepted-points done given in
+    (points, (same-lengths (clear done given) .slopes, (omega (arith, points .count .low), omega (arith, points .count .low))))
 
 same-length-2 : tie.Need-same-length-2
 same-length-2 c = search needs
