@@ -8,7 +8,7 @@ use lib.Signed.{_≤ℤ_, _<ℤ_}
 abbrev pub unit : ℤ
 unit = pos 256
 
--- "a·q² + 2·(3Z − 2a − b)·k·q + 3·(a + b − 2Z)·k²": the cubic's slope at the fraction k/q of the width, times q².
+-- "a·q² + 2·(3Z − 2a − b)·k·q + 3·(a + b − 2Z)·k²": the cubic's slope at the fraction k/q of the width, times U·h·q².
 abbrev pub slopeAt : (Z a b k q : ℤ) → ℤ
 slopeAt Z a b k q =
     a *ℤ (q *ℤ q) +ℤ pos 2 *ℤ (pos 3 *ℤ Z -ℤ pos 2 *ℤ a -ℤ b) *ℤ (k *ℤ q) +ℤ pos 3 *ℤ (a +ℤ b -ℤ pos 2 *ℤ Z) *ℤ (k *ℤ k)

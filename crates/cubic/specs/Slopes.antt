@@ -9,11 +9,11 @@ use Rattle.integers.specs.Promise.{floorOf, magnitude, withSign, towardZero}
 abbrev pub endSlope : (U h z : ℤ) → ℤ
 endSlope U h z = towardZero (U *ℤ z) h
 
--- "(h1 + 2·h2)·h1·z2 + (2·h1 + h2)·h2·z1"
+-- the denominator "(h1 + 2·h2)·h1·z2 + (2·h1 + h2)·h2·z1"
 abbrev pub meanOver : (h₁ z₁ h₂ z₂ : ℤ) → ℤ
 meanOver h₁ z₁ h₂ z₂ = (h₁ +ℤ pos 2 *ℤ h₂) *ℤ h₁ *ℤ z₂ +ℤ (pos 2 *ℤ h₁ +ℤ h₂) *ℤ h₂ *ℤ z₁
 
--- "768·(h1 + h2)·z1·z2 / [that], rounded down"; 768 is three times the unit
+-- of two rises above 0: "768·(h1 + h2)·z1·z2 / [that] rounded down"; 768 is three times the unit
 abbrev pub mean : (U h₁ z₁ h₂ z₂ : ℤ) → ℤ
 mean U h₁ z₁ h₂ z₂ = floorOf (pos 3 *ℤ U *ℤ (h₁ +ℤ h₂) *ℤ z₁ *ℤ z₂) (meanOver h₁ z₁ h₂ z₂)
 

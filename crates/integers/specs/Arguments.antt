@@ -40,9 +40,6 @@ as-coded₄ Γ R {z = z} {u = u} (four c d e f) t h =
 -- ---- of two, and of three
 
 module _ (Γ : List Known) (R : ℤ → ℤ → Type 0) {x y : ℤ} where
-  pub plainly₂ : R x y → (t : Four Γ x y (pos 0) (pos 0)) → T (sound-all t) → Plainly (λ x y _ _. R x y) t
-  plainly₂ = plainly₄ Γ (λ x y _ _. R x y)
-
   pub as-coded₂ : (t : Four Γ x y (pos 0) (pos 0)) → T (sound-all t) → Plainly (λ x y _ _. R x y) t → R x y
   as-coded₂ = as-coded₄ Γ (λ x y _ _. R x y)
 

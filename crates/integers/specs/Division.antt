@@ -3,17 +3,17 @@ use mathlib.Core.Path.{_≡_, refl, sym, _∙_, ap, subst, subst₂}
 use mathlib.Core.List.{[], _∷_}
 use Prim.Native.Nat.{ℕ, zero, suc, _+_, _*_, _/_, _%_, _≤_, _<_, zero-le}
 use native.Mathlib.Omega.{arith}
-use native.Mathlib.Nat.{div-add-mod', mod-lt, div-le-self, le-refl, le-trans, lt-of-le-of-lt}
+use native.Mathlib.Nat.{div-add-mod', mod-lt, div-le-self, lt-of-le-of-lt}
 use lib.IntN.{ℤ, pos, negsuc, negℤ, natAbs, _+ℤ_, _-ℤ_, _*ℤ_, *ℤ-comm}
 use lib.Signed.{_≤ℤ_, _<ℤ_, mag, quotZ, remZ, mag-rem, ≤ℤ-refl}
 use mir.Syntax.{Width}
-use mir.Val.{SFits}
+use mir.Val.{SFits, ofZ}
 use Rattle.integers.specs.Promise.{Floor, floorOf, magnitude, withSign, towardZero}
 use Rattle.integers.specs.Ring.{ring, quote}
 use Rattle.integers.specs.Linear.{lin, says}
 use Rattle.integers.specs.Order.{≤ℤ-<ℤ-trans, ≤ℤ-trans, ≤ℤ-antisym, <ℤ-cancel, pos-≤, 0≤-number, 0<-suc}
-use Rattle.integers.specs.Within.{Within, natAbs-minus}
-use Rattle.integers.specs.Parts.{≤-from, <-from, <-to, from-parts, diff-neg, diff-add, diff-self}
+use Rattle.integers.specs.Within.{natAbs-minus}
+use Rattle.integers.specs.Parts.{≤-to, ≤-from, <-from, <-to, from-parts, diff-neg, diff-add, diff-self}
 
 -- ---- order
 
@@ -122,7 +122,18 @@ pub mag-quot : (n : ℤ) (d : ℕ) → mag (quotZ n (pos d)) ≤ mag n
 mag-quot (pos n) d = div-le-self n d
 mag-quot (negsuc n) d = mag-minus (suc n / d) n (div-le-self (suc n) d)
 
+pub natAbs-quot : (n d : ℤ) → natAbs (quotZ n d) ≤ natAbs n
+natAbs-quot (pos n) (pos d) = div-le-self n d
+natAbs-quot (pos n) (negsuc d) = subst (λ (m : ℕ). m ≤ n) (sym (natAbs-minus (pos (n / suc d)))) (div-le-self n (suc d))
+natAbs-quot (negsuc n) (pos d) = subst (λ (m : ℕ). m ≤ suc n) (sym (natAbs-minus (pos (suc n / d)))) (div-le-self (suc n) d)
+natAbs-quot (negsuc n) (negsuc d) = div-le-self (suc n) (suc d)
+
 -- ---- what a proof of code cites, for any d ≥ 1
+
+-- a divisor is not 0, seen at its bits
+pub positive-bits : (w : Width) {d : ℤ} → pos 1 ≤ℤ d → zero < ofZ w d
+positive-bits w {d = pos d} h = omega (arith, ≤-to (pos 1) (pos d) h)
+positive-bits w {d = negsuc d} h = absurd (h .le)
 
 pub quot-fits : (w : Width) {n d : ℤ} → pos 1 ≤ℤ d → SFits w n → SFits w (quotZ n d)
 quot-fits w {n} {d = pos d} h f = record { sfits = lt-of-le-of-lt (mag-quot n d) (f .sfits) }
@@ -157,27 +168,6 @@ quot-toward n {d = pos zero} h = absurd (h .le)
 quot-toward (pos n) {d = pos (suc d)} h = refl
 quot-toward (negsuc n) {d = pos (suc d)} h = refl
 quot-toward n {d = negsuc d} h = absurd (h .le)
-
-pub no-quotient : (n : ℤ) {d : ℤ} → d <ℤ pos 1 → pos 0 ≡ towardZero n d
-no-quotient (pos n) h = no-floor (pos n) h
-no-quotient (negsuc n) h = ap negℤ (no-floor (pos (suc n)) h)
-
--- it is no larger than the number
-pub toward-within : {M : ℕ} (n d : ℤ) → Within M n → Within M (towardZero n d)
-toward-within n d h = record { size = le-trans (smaller n) (h .size) }
-  where
-    floor-smaller : (n : ℕ) → natAbs (floorOf (pos n) d) ≤ n
-    floor-smaller n = le-trans (natAbs-floor n d) (mag-floor (pos n) d)
-      where
-        natAbs-floor : (n : ℕ) (d : ℤ) → natAbs (floorOf (pos n) d) ≤ mag (floorOf (pos n) d)
-        natAbs-floor n (pos zero) = zero-le
-        natAbs-floor n (pos (suc d)) = le-refl _
-        natAbs-floor n (negsuc d) = zero-le
-
-    smaller : (n : ℤ) → natAbs (towardZero n d) ≤ natAbs n
-    smaller (pos n) = floor-smaller n
-    smaller (negsuc n) =
-        subst (λ (m : ℕ). m ≤ suc n) (sym (natAbs-minus (floorOf (pos (suc n)) d))) (floor-smaller (suc n))
 
 -- a number with a positive factor
 pub toward-scaled : {k : ℤ} → pos 0 <ℤ k → (z d : ℤ) → towardZero (k *ℤ z) d ≡ withSign z (floorOf (k *ℤ magnitude z) d)

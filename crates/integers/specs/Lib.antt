@@ -6,7 +6,6 @@ pub mod Linear
 pub mod Order
 pub mod Signs
 pub mod Division
-pub mod Quotient
 pub mod Decided
 pub mod Within
 pub mod Sizes

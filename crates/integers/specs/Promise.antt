@@ -1,5 +1,4 @@
 -- The definitions that the contracts of this crate cite. Whoever believes its promises believes this file.
-use mathlib.Core.Path.{_≡_}
 use mathlib.Core.Bool.{Bool, true, false}
 use Prim.Native.Nat.{zero, suc, _/_}
 use lib.IntN.{ℤ, pos, negsuc, negℤ, natAbs, _+ℤ_, _*ℤ_}
@@ -15,7 +14,7 @@ pub data Decided (A : Type 0) : Bool → Type 0 where
   holds : A → Decided A true
   fails : (A → ⊥) → Decided A false
 
--- q is n/d rounded down: the one whole number with q·d ≤ n < (q + 1)·d.
+-- q is n/d rounded down, for d > 0: the one whole number with q·d ≤ n < (q + 1)·d.
 pub record Floor (n d q : ℤ) : Type 0 where
   pub low : (q *ℤ d) ≤ℤ n
   pub high : n <ℤ ((q +ℤ pos 1) *ℤ d)
@@ -35,10 +34,6 @@ abbrev pub withSign : (s x : ℤ) → ℤ
 withSign (pos n) x = x
 withSign (negsuc n) x = negℤ x
 
--- n/d rounded toward zero: its magnitude rounded down, with the sign of n.
+-- n/d rounded toward zero for d > 0: its magnitude rounded down, with the sign of n. It is 0 for any other d.
 abbrev pub towardZero : (n d : ℤ) → ℤ
 towardZero n d = withSign n (floorOf (magnitude n) d)
-
--- The same as a relation, which shows n and d to a caller's proof.
-pub record TowardZero (n d q : ℤ) : Type 0 where
-  pub is : q ≡ towardZero n d

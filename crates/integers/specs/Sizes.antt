@@ -9,10 +9,11 @@ use native.Mathlib.Omega.{arith}
 use native.Mathlib.Nat.{le-refl, le-trans, lt-of-le-of-lt, mul-le-mul}
 use lib.Dec.{T, ltb, leb, ltb→lt, leb→le}
 use lib.IntN.{ℤ, pos, negsuc, negℤ, natAbs, _+ℤ_, _-ℤ_, _*ℤ_, +ℤ-idl}
-use lib.Signed.{mag, natAbs-le}
+use lib.Signed.{mag, quotZ, natAbs-le}
 use mir.Syntax.{Width}
 use mir.Val.{SFits, toZ, ofZ, hbits}
 use mir.Facts.{toZ-ofZ, and-yes}
+use Rattle.integers.specs.Division.{natAbs-quot}
 use Rattle.integers.specs.Within.{Within, natAbs-plus, natAbs-minus, natAbs-product}
 
 -- ---- expressions
@@ -35,13 +36,14 @@ pub data Code (Γ : List Known) : ℤ → Type 0 where
   below : (n : ℕ) → Code Γ (negsuc n)
   plus : {x y : ℤ} → Code Γ x → Code Γ y → Code Γ (x +ℤ y)
   product : {x y : ℤ} → Code Γ x → Code Γ y → Code Γ (x *ℤ y)
+  quotient : {x y : ℤ} → Code Γ x → Code Γ y → Code Γ (quotZ x y)
   minus : {x : ℤ} → Code Γ x → Code Γ (negℤ x)
   opposite : {x : ℤ} → Code Γ x → Code Γ (pos 0 -ℤ x)
   layer : (w : Width) {x : ℤ} → Code Γ x → Code Γ (toZ w (ofZ w x))
   whole : (w : Width) {x : ℤ} → Held w x Γ → Code Γ (toZ w (ofZ w x))
   listed : {x : ℤ} → Listed x Γ → Code Γ x
 
-pub ruleset code = (number, below, opposite, plus, product, minus, whole, layer, listed, first, later, first-held, later-held)
+pub ruleset code = (number, below, opposite, plus, product, quotient, minus, whole, layer, listed, first, later, first-held, later-held)
 
 -- without the layers
 abbrev pub plain : {Γ : List Known} {x : ℤ} → Code Γ x → ℤ
@@ -49,6 +51,7 @@ plain (number n) = pos n
 plain (below n) = negsuc n
 plain (plus c d) = plain c +ℤ plain d
 plain (product c d) = plain c *ℤ plain d
+plain (quotient c d) = quotZ (plain c) (plain d)
 plain (minus c) = negℤ (plain c)
 plain (opposite c) = negℤ (plain c)
 plain (layer w c) = plain c
@@ -64,6 +67,7 @@ size (number n) = n
 size (below n) = suc n
 size (plus c d) = size c + size d
 size (product c d) = size c * size d
+size (quotient c d) = size c
 size (minus c) = size c
 size (opposite c) = size c
 size (layer w c) = size c
@@ -76,6 +80,7 @@ sound (number n) = true
 sound (below n) = true
 sound (plus c d) = sound c && sound d
 sound (product c d) = sound c && sound d
+sound (quotient c d) = sound c && sound d
 sound (minus c) = sound c
 sound (opposite c) = sound c
 sound (layer w c) = sound c && ltb (size c) (2 ^ hbits w)
@@ -102,6 +107,7 @@ size-holds (below n) = le-refl (suc n)
 size-holds (plus c d) = omega (arith, natAbs-plus (plain c) (plain d), size-holds c, size-holds d)
 size-holds (product c d) =
     subst (λ (n : ℕ). n ≤ size c * size d) (sym (natAbs-product (plain c) (plain d))) (mul-le-mul (size-holds c) (size-holds d))
+size-holds (quotient c d) = le-trans (natAbs-quot (plain c) (plain d)) (size-holds c)
 size-holds (opposite c) = subst (λ (n : ℕ). n ≤ size c) (sym (natAbs-minus (plain c))) (size-holds c)
 size-holds (minus c) = subst (λ (n : ℕ). n ≤ size c) (sym (natAbs-minus (plain c))) (size-holds c)
 size-holds (layer w c) = size-holds c
@@ -121,6 +127,7 @@ plain-is (number n) t = refl
 plain-is (below n) t = refl
 plain-is (plus c d) t = let b = and-yes (sound c) (sound d) t in ap₂ _+ℤ_ (plain-is c (b .0)) (plain-is d (b .1))
 plain-is (product c d) t = let b = and-yes (sound c) (sound d) t in ap₂ _*ℤ_ (plain-is c (b .0)) (plain-is d (b .1))
+plain-is (quotient c d) t = let b = and-yes (sound c) (sound d) t in ap₂ quotZ (plain-is c (b .0)) (plain-is d (b .1))
 plain-is (minus c) t = ap negℤ (plain-is c t)
 plain-is (opposite {x} c) t = +ℤ-idl (negℤ x) ∙ ap negℤ (plain-is c t)
 plain-is (layer w c) t =

@@ -1,8 +1,9 @@
--- What a test in code says of the plain values: `passed` and `failed` for < and ≤, `zero-yes` and `zero-no` for a comparison with 0.
+-- What a test in code says of the plain values: `passed` and `failed` for < and ≤, `zero-yes` and `zero-no` for a comparison with 0; and that a
+-- divisor is not 0.
 use mathlib.Core.Path.{_≡_, sym, _∙_, ap, ap₂, subst}
 use mathlib.Core.Bool.{Bool, true, false, not, _&&_}
 use mathlib.Core.List.{List}
-use Prim.Native.Nat.{ℕ, _^_}
+use Prim.Native.Nat.{ℕ, _^_, _<_}
 use lib.Dec.{T, ltb}
 use lib.IntN.{ℤ, pos}
 use lib.Signed.{_≤ℤ_, _<ℤ_, leZ, ltZ, leZ-yes, ltZ-yes, ltZ-no}
@@ -10,7 +11,8 @@ use mir.Syntax.{Width}
 use mir.Val.{toZ, ofZ, hbits}
 use mir.Facts.{toZ-pos, and-yes}
 use lib.Pow.{pow-pos}
-use Rattle.integers.specs.Order.{leZ-no}
+use Rattle.integers.specs.Order.{leZ-no, <ℤ→≤ℤ}
+use Rattle.integers.specs.Division.{positive-bits}
 use Rattle.integers.specs.Sizes.{Known, Code, layer, code, plain, size, sound, plain-is}
 
 -- a test of two expressions
@@ -41,6 +43,15 @@ pub passed : (Γ : List Known) {b : Bool} → b ≡ true → (t : Test Γ b) →
 passed Γ e (less c d) t = ltZ-yes (subst T (sym e ∙ plain-test ltZ c d t) tt)
 passed Γ e (at-most c d) t = leZ-yes (subst T (sym e ∙ plain-test leZ c d t) tt)
 
+-- a test that is passed says ≤ at least
+abbrev pub AtMost : {Γ : List Known} {b : Bool} → Test Γ b → Type 0
+AtMost (less c d) = plain c ≤ℤ plain d
+AtMost (at-most c d) = plain c ≤ℤ plain d
+
+pub passed-at-most : (Γ : List Known) {b : Bool} → b ≡ true → (t : Test Γ b) → T (sound-test t) → AtMost t
+passed-at-most Γ e (less c d) t = <ℤ→≤ℤ (passed Γ e (less c d) t)
+passed-at-most Γ e (at-most c d) t = passed Γ e (at-most c d) t
+
 pub failed : (Γ : List Known) {b : Bool} → b ≡ false → (t : Test Γ b) → T (sound-test t) → Failed t
 failed Γ e (less c d) t = ltZ-no (subst (λ (b : Bool). T (not b)) (sym e ∙ plain-test ltZ c d t) tt)
 failed Γ e (at-most c d) t = leZ-no (subst (λ (b : Bool). T (not b)) (sym e ∙ plain-test leZ c d t) tt)
@@ -61,5 +72,10 @@ zero-yes Γ e (bits w c) t = sym (plain-is (layer w c) t) ∙ ap (toZ w) e ∙ t
 
 pub zero-no : (Γ : List Known) {n : ℕ} → (n ≡ 0 → ⊥) → (b : Bits Γ n) → T (sound-bits b) → value b ≡ pos 0 → ⊥
 zero-no Γ f (bits w c) t e = f (ap (ofZ w) (plain-is c (and-yes (sound c) (ltb (size c) (2 ^ hbits w)) t .0) ∙ e))
+
+-- a divisor that is at least 1 is not 0
+pub not-zero : (Γ : List Known) {n : ℕ} (b : Bits Γ n) → T (sound-bits b) → pos 1 ≤ℤ value b → 0 < n
+not-zero Γ (bits w c) t h =
+    positive-bits w (subst (λ (v : ℤ). pos 1 ≤ℤ v) (sym (plain-is c (and-yes (sound c) (ltb (size c) (2 ^ hbits w)) t .0))) h)
 
 pub ruleset zeros = (bits, code)

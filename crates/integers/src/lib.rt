@@ -1,7 +1,7 @@
 // Signed arithmetic that is what the integers say: no result here is computed from a wrapped number.
 ghost use mathlib.Core.Path.{_≡_};
 ghost use lib.IntN.{_-ℤ_};
-ghost use Rattle.integers.specs.Promise.{Decided, floorOf, TowardZero, Between};
+ghost use Rattle.integers.specs.Promise.{Decided, floorOf, Between};
 
 // The difference of any two 32-bit numbers, right minus left. It is taken in 64 bits, where it always fits.
 pub fn difference(left: i32, right: i32) -> i64
@@ -33,14 +33,4 @@ pub fn floor_div(n: i64, d: i64) -> i64
         return q - 1;
     }
     q
-}
-
-// n/d rounded toward zero where d is positive, and 0 where it is not.
-pub fn toward_zero(n: i64, d: i64) -> i64
-    ensures { λ r. ⌜ TowardZero n d r ⌝ }
-{
-    if d < 1 {
-        return 0;
-    }
-    n / d
 }

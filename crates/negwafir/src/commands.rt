@@ -6,7 +6,7 @@ use crate::lists::Lengths;
 use crate::lists::List;
 use crate::lists::front;
 use crate::pieces;
-use crate::table;
+use crate::tables;
 
 // The longest line that is answered, without its ending.
 const LONGEST: usize = 65536;
@@ -103,7 +103,7 @@ fn other_command(
         return lists::show(line, from, number, knots, values, slopes);
     }
     if check::same(name, b"build") {
-        return table::build(line, from, number, knots, values, slopes);
+        return tables::build(line, from, number, knots, values, slopes);
     }
     answers::fault(number, b"no such command")
 }

@@ -5,7 +5,7 @@ mod input;
 mod lists;
 mod numbers;
 mod pieces;
-mod table;
+mod tables;
 
 fn main() {
     input::serve();

@@ -1,4 +1,4 @@
-// The numbers of the exact rules: the limits of a piece, and how a refusal is answered.
+// The numbers of the exact rules: the limits, the slope unit, and how a refusal is answered.
 ghost use Rattle.integers.specs.Promise.{Decided};
 ghost use Rattle.rules.specs.Limits.{CountWithin, WidthWithin, RiseWithin};
 

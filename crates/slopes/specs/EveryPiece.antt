@@ -17,7 +17,7 @@ use Rattle.slopes.specs.Slopes.{builtSlope, builtSlopes, Built}
 use Rattle.slopes.specs.Put.{tab-length, tab-entry}
 use Rattle.slopes.specs.FairSlopes.{left-fair, right-fair}
 
--- the built slopes, read from their list
+-- the slopes as they stand in the list
 monotone-at : {ks vs : List ℤ} → Points ks vs → (i : ℕ) → i + 1 < length ks → MonotoneAt (table ks vs (builtSlopes ks vs)) i
 monotone-at {ks} {vs} p i l =
     subst₂ (Monotone unit (step ks i) (step vs i)) (sym (tab-entry (length ks) (builtSlope ks vs) i (omega arith))) (sym (tab-entry (length ks) (builtSlope ks vs) (i + 1) l))
@@ -29,7 +29,7 @@ module _ {knots values before after : List ℤ} {place : ℕ} (built : Built kno
       subst (λ (slopes : List ℤ). MonotoneAt (table knots values slopes) i) (sym (built .slopes))
       (monotone-at (accepted-points refl (built .refusal)) i l)
 
-  -- so that a table check of it answers 0, at place 0
+  -- so that 0, at place 0, is what the exact rules give a table check of it
   pub a-built-table-passes-the-table-check : Given (Holds (table knots values after)) checkOrder 0 0
   a-built-table-passes-the-table-check =
       went-on refl (points-accepted (accepted-points refl (built .refusal)) (ap length (built .slopes) ∙ tab-length (length knots) (builtSlope knots values)))

@@ -18,6 +18,7 @@ figures =
     ∷ figure (pos 0 ∷ pos 1 ∷ pos 3 ∷ []) (pos 0 ∷ pos 1 ∷ pos 2 ∷ []) (pos 256 ∷ pos 177 ∷ pos 128 ∷ [])
     ∷ figure (pos 0 ∷ pos 3 ∷ []) (pos 0 ∷ negsuc 9 ∷ []) (negsuc 852 ∷ negsuc 852 ∷ [])
     ∷ figure (pos 0 ∷ pos 1 ∷ pos 2 ∷ pos 3 ∷ []) (pos 0 ∷ pos 1 ∷ pos 4 ∷ pos 7 ∷ []) (pos 256 ∷ pos 384 ∷ pos 768 ∷ pos 768 ∷ [])
+    ∷ figure (pos 0 ∷ pos 1 ∷ pos 2 ∷ pos 3 ∷ []) (negsuc 1 ∷ pos 1 ∷ pos 4 ∷ pos 7 ∷ []) (pos 768 ∷ pos 768 ∷ pos 768 ∷ pos 768 ∷ [])
     ∷ []
 
 abbrev pub AllBuilt : List Figure → Type 0
@@ -25,7 +26,7 @@ AllBuilt [] = Unit
 AllBuilt (figure ks vs ss ∷ more) = (builtSlopes ks vs ≡ ss) × AllBuilt more
 
 pub figures-are-built : AllBuilt figures
-figures-are-built = (refl, (refl, (refl, (refl, tt))))
+figures-are-built = (refl, (refl, (refl, (refl, (refl, tt)))))
 
 -- "Knots 2147483647, −2147483648: refused by 3 at place 0", whatever the two values and slopes
 pub ends-of-32-bits-are-refused : (v w m n : ℤ) → Given (Holds (table (pos 2147483647 ∷ negsuc 2147483647 ∷ []) (v ∷ w ∷ []) (m ∷ n ∷ []))) buildOrder 3 0

@@ -9,7 +9,8 @@ pub fn end(h: i64, z: i64) -> i32
     requires { ⌜ Within h z ⌝ }
     ensures { λ r. ⌜ r ≡ endSlope unit h z ⌝ }
 {
-    integers::toward_zero(rules::UNIT * z, h) as i32
+    let steepness = rules::UNIT * z / h;
+    steepness as i32
 }
 
 // Between two rises: their slopes' mean, rounded down. Within the limits the product above stays below 2^61, and the mean below 2^30.
@@ -20,7 +21,8 @@ fn mean(h1: i64, z1: i64, h2: i64, z2: i64) -> i32
 {
     let above = 3 * rules::UNIT * (h1 + h2) * z1 * z2;
     let below = (h1 + 2 * h2) * h1 * z2 + (2 * h1 + h2) * h2 * z1;
-    integers::toward_zero(above, below) as i32
+    let steepness = above / below;
+    steepness as i32
 }
 
 // At an inner point, with the piece h1, z1 on its left and h2, z2 on its right.

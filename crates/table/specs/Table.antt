@@ -16,14 +16,17 @@ pub record Table : Type 0 where
 abbrev pub table : (knots values slopes : List ℤ) → Table
 table ks vs ss = record { knots = ks; values = vs; slopes = ss }
 
+-- Entry i of a list. Where there is none it is 0, which no answer rests on: that the lists are equally long is asked first.
 abbrev pub entry : List ℤ → ℕ → ℤ
 entry list i = getD list i (pos 0)
 
--- "Piece i runs from point i to point i+1. [..] width h = right knot − left knot, rise z = right value − left value"
+-- "Piece i runs from point i to point i+1": its "width h = right knot − left knot" is a step of the knots, its "rise z = right value − left value"
+-- one of the values.
 abbrev pub step : List ℤ → ℕ → ℤ
 step list i = entry list (i + 1) -ℤ entry list i
 
 module _ (t : Table) where
+  -- how many points there are, where the lists are equally long
   abbrev pub points : ℕ
   points = length (t .knots)
 

@@ -1,4 +1,4 @@
-// The causes of a refusal that are asked of every table, in the order of the exact rules.
+// Why a table is refused before its slopes are looked at: 1, 2, 3, 4, in this order.
 ghost use mathlib.Core.List.{[], _∷_};
 ghost use Rattle.rules.specs.Refusals.{Given};
 ghost use Rattle.table.specs.Table.{table, Holds, buildOrder};

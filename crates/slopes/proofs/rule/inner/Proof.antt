@@ -8,7 +8,7 @@ use mir.Facts.{toZ-ofZ}
 use Rattle.integers.specs.Linear.{lin, says}
 use Rattle.integers.specs.Within as size
 use Rattle.integers.specs.Sizes.{Known, known, fits, plain-is, code}
-use Rattle.integers.specs.Tests.{tests, passed, failed}
+use Rattle.integers.specs.Tests.{tests, passed, passed-at-most, failed}
 use Rattle.integers.specs.Arguments.{arguments, plainly₄, as-coded₂}
 use Rattle.cubic.specs.Piece.{unit}
 use Rattle.cubic.specs.Slopes.{mean}
@@ -33,7 +33,7 @@ mul-if1 c = fits (given c) (search code depth 30 fits 9000) tt
 returns : tie.Need-returns
 returns c =
     let s = c .before in
-    inner-level unit (s .args .h1) (s .args .z1) (s .args .h2) (s .args .z2) (passed (given s) (c .if1 .taken) (search tests depth 30 fits 9000) tt)
+    inner-level unit (s .args .h1) (s .args .z1) (s .args .h2) (s .args .z2) (passed-at-most (given s) (c .if1 .taken) (search tests depth 30 fits 9000) tt)
 
 product : (c : tie.Else1) → let s = c .before .args in pos 0 <ℤ (s .z1 *ℤ s .z2)
 product c = failed (given (c .before)) (c .if1 .left) (search tests depth 30 fits 9000) tt

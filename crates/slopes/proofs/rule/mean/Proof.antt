@@ -1,14 +1,15 @@
 -- `slopes::rule::mean` meets its contract: every step fits, and the quotient is at most three times the left piece's slope.
 use mathlib.Core.Path.{_≡_, sym, _∙_, subst}
 use mathlib.Core.List.{List, [], _∷_}
-use lib.IntN.{ℤ}
-use borrow.Author.Needs.{needs}
-use Rattle.integers.specs.Promise.{TowardZero}
-use Rattle.integers.specs.Order.{<ℤ→≤ℤ, signs}
-use Rattle.integers.specs.Division.{toward-floor}
-use Rattle.integers.specs.Within.{Within}
-use Rattle.integers.specs.Sizes.{Known, known, fits, plain-is, code}
-use Rattle.integers.specs.Arguments.{arguments, plainly₂}
+use lib.IntN.{ℤ, pos, _+ℤ_, _*ℤ_}
+use lib.Signed.{_≤ℤ_, quotZ}
+use mir.Syntax.{w32}
+use mir.Val.{SFits}
+use mir.Facts.{toZ-ofZ}
+use Rattle.integers.specs.Order.{<ℤ→≤ℤ, 0<→1≤, signs, positives}
+use Rattle.integers.specs.Division.{quot-toward, toward-floor}
+use Rattle.integers.specs.Sizes.{Known, known, listed, first, fits, plain-is, code}
+use Rattle.integers.specs.Tests.{zeros, not-zero}
 use Rattle.cubic.specs.Piece.{unit}
 use Rattle.cubic.specs.Slopes.{mean, meanOver}
 use Rattle.rules.specs.Known.{known-width, known-rise}
@@ -72,30 +73,41 @@ add-below-3 c = fits (given c) (search code depth 30 fits 9000) tt
 
 -- ---- their quotient
 
-toward-zero-requires : tie.Need-toward-zero-requires
-toward-zero-requires c κs = search needs
+-- the sum below is above 0
+divisor : (s : tie.Start) → pos 1 ≤ℤ meanOver (s .args .h1) (s .args .z1) (s .args .h2) (s .args .z2)
+divisor s =
+    let h₁ = 0<-width (s .pre .0 .within .width) in
+    let z₁ = s .pre .0 .up in
+    let h₂ = 0<-width (s .pre .1 .within .width) in
+    let z₂ = s .pre .1 .up in 0<→1≤ (search positives depth 9 fits 9000)
 
-answer : (c : tie.After-toward-zero) → let s = c .before .args in c .toward-zero .result ≡ mean unit (s .h1) (s .z1) (s .h2) (s .z2)
-answer c =
-    let s = c .before in
+div-steepness : tie.Need-div-steepness
+div-steepness c =
+    let Γ = given c in
+    (not-zero Γ (search zeros depth 30 fits 9000) tt (divisor c), fits Γ (search code depth 30 fits 9000) tt)
+
+is-mean : (s : tie.Start) → let a = s .args in quotZ (pos 3 *ℤ unit *ℤ (a .h1 +ℤ a .h2) *ℤ a .z1 *ℤ a .z2) (meanOver (a .h1) (a .z1) (a .h2) (a .z2)) ≡ mean unit (a .h1) (a .z1) (a .h2) (a .z2)
+is-mean s =
+    let a = s .args in
     let h₁ = <ℤ→≤ℤ (0<-width (s .pre .0 .within .width)) in
     let z₁ = <ℤ→≤ℤ (s .pre .0 .up) in
     let h₂ = <ℤ→≤ℤ (0<-width (s .pre .1 .within .width)) in
     let z₂ = <ℤ→≤ℤ (s .pre .1 .up) in
-    plainly₂ (given s) (λ (n d : ℤ). TowardZero n d (c .toward-zero .result)) (c .toward-zero .ensures) (search arguments depth 30 fits 9000) tt .is
-    ∙ toward-floor (meanOver (s .args .h1) (s .args .z1) (s .args .h2) (s .args .z2)) (search signs depth 9 fits 9000)
+    quot-toward (pos 3 *ℤ unit *ℤ (a .h1 +ℤ a .h2) *ℤ a .z1 *ℤ a .z2) (divisor s)
+    ∙ toward-floor (meanOver (a .h1) (a .z1) (a .h2) (a .z2)) (search signs depth 9 fits 9000)
 
-small : (c : tie.After-toward-zero) → Within 805306368 (c .toward-zero .result)
-small c = subst (Within 805306368) (sym (answer c)) (mean-within (c .before .pre .0) (c .before .pre .1))
-
-abbrev quotient : tie.After-toward-zero → List Known
-quotient c = known (c .toward-zero .result) 805306368 (small c) ∷ []
+-- it fits 32 bits
+small : (s : tie.Start) → let a = s .args in SFits w32 (mean unit (a .h1) (a .z1) (a .h2) (a .z2))
+small s =
+    fits (known _ 805306368 (mean-within (s .pre .0) (s .pre .1)) ∷ []) (listed first) tt
 
 cast-result : tie.Need-cast-result
-cast-result c = fits (quotient c) (search code depth 30 fits 9000) tt
+cast-result c =
+    subst (λ (v : ℤ). SFits w32 v) (sym (plain-is {Γ = given c} (search code depth 30 fits 9000) tt ∙ is-mean c)) (small c)
 
 returns : tie.Need-returns
-returns c = record { is = plain-is {Γ = quotient c} (search code depth 30 fits 9000) tt ∙ answer c }
+returns c =
+    record { is = toZ-ofZ (cast-result c) ∙ plain-is {Γ = given c} (search code depth 30 fits 9000) tt ∙ is-mean c }
 
 pub mean-spec : {M : Type 1} → statement M
 mean-spec =
@@ -115,6 +127,6 @@ mean-spec =
     mul-below-5
     mul-below-6
     add-below-3
-    toward-zero-requires
+    div-steepness
     cast-result
     returns)
