@@ -5,7 +5,7 @@ ghost use Rattle.cubic.specs.Slopes.{endSlope, innerSlope};
 ghost use Rattle.slopes.specs.Sizes.{Within, Up, Mean};
 
 // At an end of the table: the slope of the end piece, rounded toward zero.
-pub fn end(h: i64, z: i64) -> i32
+pub(crate) fn end(h: i64, z: i64) -> i32
     requires { ⌜ Within h z ⌝ }
     ensures { λ r. ⌜ r ≡ endSlope unit h z ⌝ }
 {
@@ -26,7 +26,7 @@ fn mean(h1: i64, z1: i64, h2: i64, z2: i64) -> i32
 }
 
 // At an inner point, with the piece h1, z1 on its left and h2, z2 on its right.
-pub fn inner(h1: i64, z1: i64, h2: i64, z2: i64) -> i32
+pub(crate) fn inner(h1: i64, z1: i64, h2: i64, z2: i64) -> i32
     requires { ⌜ Within h1 z1 ⌝ }
     requires { ⌜ Within h2 z2 ⌝ }
     ensures { λ r. ⌜ r ≡ innerSlope unit h1 z1 h2 z2 ⌝ }

@@ -8,7 +8,7 @@ use crate::pieces;
 use rules::Refusal;
 
 // What is asked of each piece.
-pub enum Cause {
+pub(crate) enum Cause {
     Width,
     Rise,
 }
@@ -34,7 +34,7 @@ fn is_sound(cause: Cause, knots: &[i32], values: &[i32], i: usize) -> bool
 }
 
 // The refusal by this cause, at the first piece at which it holds, or none. The slopes are not asked, whatever they are.
-pub fn first(cause: Cause, knots: &[i32], values: &[i32]) -> Refusal
+pub(crate) fn first(cause: Cause, knots: &[i32], values: &[i32]) -> Refusal
     requires { ⌜ length (now values) ≡ length (now knots) ⌝ }
     ensures { λ r. ⌜ Found cause (now (knots .entry)) (now (values .entry)) (r .number) (r .place) ⌝ }
 {
