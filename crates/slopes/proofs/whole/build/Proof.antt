@@ -9,6 +9,14 @@ use Rattle.slopes.specs.Put.{put-all}
 use Rattle.slopes.proofs.whole.build.Statement.{statement}
 use Rattle.slopes.proofs.whole.build.Tie as tie
 
+-- nothing is written before every cause has been asked
+renew-requires : tie.Need-renew-requires
+renew-requires c κs =
+    let given = c .before .before .before .points .ensures in
+    let done = c .before .if1 .left in
+    let points = accepted-points done given in
+    (points, (same-lengths (clear done given) .slopes, (omega (arith, points .count .low), omega (arith, points .count .low))))
+
 points-requires : tie.Need-points-requires
 points-requires c κs = search needs
 
@@ -22,13 +30,6 @@ returns c =
       refusal = c .before .before .points .ensures;
       slopes = kept (s .slopes .now) (builtSlopes (s .knots .now) (s .values .now)) (c .if1 .taken);
     }
-
-renew-requires : tie.Need-renew-requires
-renew-requires c κs =
-    let given = c .before .before .before .points .ensures in
-    let done = c .before .if1 .left in
-    let points = accepted-points done given in
-    (points, (same-lengths (clear done given) .slopes, (omega (arith, points .count .low), omega (arith, points .count .low))))
 
 same-length-2 : tie.Need-same-length-2
 same-length-2 c = search needs
