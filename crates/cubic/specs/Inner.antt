@@ -1,5 +1,5 @@
 -- The rule for an inner point, case by case: no slope, two rises, two falls.
-use mathlib.Core.Path.{_≡_, refl, sym, _∙_, ap, ap₂, subst}
+use mathlib.Core.Path.{_≡_, refl, sym, _∙_, ap₂, subst}
 use mathlib.Core.Bool.{Bool, true, false, cond}
 use lib.Dec.{T}
 use lib.IntN.{ℤ, pos, negℤ, _*ℤ_, *ℤ-comm}
@@ -24,31 +24,28 @@ module _ (U h₁ z₁ h₂ z₂ : ℤ) where
       go false e = refl
 
   module _ (p : pos 0 <ℤ (z₁ *ℤ z₂)) where
-    turned : pos 0 <ℤ (z₂ *ℤ z₁)
-    turned = subst (λ (v : ℤ). pos 0 <ℤ v) (*ℤ-comm z₁ z₂) p
+    -- the magnitudes, whatever they are called
+    above : {m₁ m₂ : ℤ} → magnitude z₁ ≡ m₁ → magnitude z₂ ≡ m₂ → (pos 0 <ℤ m₁) × (pos 0 <ℤ m₂)
+    above e₁ e₂ = (
+      subst (λ (v : ℤ). pos 0 <ℤ v) e₁ (0<-magnitude z₁ z₂ p),
+      subst (λ (v : ℤ). pos 0 <ℤ v) e₂ (0<-magnitude z₂ z₁ (subst (λ (v : ℤ). pos 0 <ℤ v) (*ℤ-comm z₁ z₂) p)),
+    )
+
+    signed : {m₁ m₂ : ℤ} → magnitude z₁ ≡ m₁ → magnitude z₂ ≡ m₂ → withSign z₁ (mean U h₁ m₁ h₂ m₂) ≡ innerSlope U h₁ z₁ h₂ z₂
+    signed e₁ e₂ = ap₂ (λ (x y : ℤ). withSign z₁ (mean U h₁ x h₂ y)) (sym e₁) (sym e₂) ∙ inner-steep p
 
     -- two rises
-    pub both-up : pos 0 ≤ℤ z₁ → (pos 0 <ℤ z₁) × (pos 0 <ℤ z₂)
-    both-up u = (
-      subst (λ (v : ℤ). pos 0 <ℤ v) (magnitude-up z₁ u) (0<-magnitude z₁ z₂ p),
-      subst (λ (v : ℤ). pos 0 <ℤ v) (magnitude-up z₂ (other-up z₁ z₂ p u)) (0<-magnitude z₂ z₁ turned),
-    )
+    module _ (u : pos 0 ≤ℤ z₁) where
+      pub both-up : (pos 0 <ℤ z₁) × (pos 0 <ℤ z₂)
+      both-up = above (magnitude-up z₁ u) (magnitude-up z₂ (other-up z₁ z₂ p u))
 
-    pub inner-up : pos 0 ≤ℤ z₁ → mean U h₁ z₁ h₂ z₂ ≡ innerSlope U h₁ z₁ h₂ z₂
-    inner-up u =
-        sym (ap₂ (λ (x y : ℤ). mean U h₁ x h₂ y) (magnitude-up z₁ u) (magnitude-up z₂ (other-up z₁ z₂ p u)))
-        ∙ sym (sign-up z₁ _ u)
-        ∙ inner-steep p
+      pub inner-up : mean U h₁ z₁ h₂ z₂ ≡ innerSlope U h₁ z₁ h₂ z₂
+      inner-up = sym (sign-up z₁ _ u) ∙ signed (magnitude-up z₁ u) (magnitude-up z₂ (other-up z₁ z₂ p u))
 
     -- two falls
-    pub both-down : z₁ <ℤ pos 0 → (pos 0 <ℤ negℤ z₁) × (pos 0 <ℤ negℤ z₂)
-    both-down d = (
-      subst (λ (v : ℤ). pos 0 <ℤ v) (magnitude-down z₁ d) (0<-magnitude z₁ z₂ p),
-      subst (λ (v : ℤ). pos 0 <ℤ v) (magnitude-down z₂ (other-down z₁ z₂ p d)) (0<-magnitude z₂ z₁ turned),
-    )
+    module _ (d : z₁ <ℤ pos 0) where
+      pub both-down : (pos 0 <ℤ negℤ z₁) × (pos 0 <ℤ negℤ z₂)
+      both-down = above (magnitude-down z₁ d) (magnitude-down z₂ (other-down z₁ z₂ p d))
 
-    pub inner-down : z₁ <ℤ pos 0 → negℤ (mean U h₁ (negℤ z₁) h₂ (negℤ z₂)) ≡ innerSlope U h₁ z₁ h₂ z₂
-    inner-down d =
-        ap negℤ (sym (ap₂ (λ (x y : ℤ). mean U h₁ x h₂ y) (magnitude-down z₁ d) (magnitude-down z₂ (other-down z₁ z₂ p d))))
-        ∙ sym (sign-down z₁ _ d)
-        ∙ inner-steep p
+      pub inner-down : negℤ (mean U h₁ (negℤ z₁) h₂ (negℤ z₂)) ≡ innerSlope U h₁ z₁ h₂ z₂
+      inner-down = sym (sign-down z₁ _ d) ∙ signed (magnitude-down z₁ d) (magnitude-down z₂ (other-down z₁ z₂ p d))
