@@ -21,6 +21,10 @@ pub denied : {A : Type 0} {b : Bool} → Decided A b → b ≡ false → A → �
 denied (holds a) e = absurd (subst T e tt)
 denied (fails f) e = f
 
+-- of the same number under another name
+pub asked : (W : ℤ → Type 0) {y x : ℤ} {b : Bool} → y ≡ x → Decided (W y) b → Decided (W x) b
+asked W {b = b} e d = subst (λ (z : ℤ). Decided (W z) b) e d
+
 -- two answers to one question are the same
 pub one-decision : {A : Type 0} {b c : Bool} → Decided A b → Decided A c → b ≡ c
 one-decision (holds a) (holds d) = refl

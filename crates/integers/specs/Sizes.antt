@@ -4,7 +4,7 @@
 use mathlib.Core.Path.{_≡_, refl, sym, _∙_, ap, ap₂, subst}
 use mathlib.Core.Bool.{Bool, true, _&&_}
 use mathlib.Core.List.{List, _∷_}
-use Prim.Native.Nat.{ℕ, suc, _+_, _*_, _^_, _≤_}
+use Prim.Native.Nat.{ℕ, suc, _+_, _*_, _^_, _≤_, _<_}
 use native.Mathlib.Omega.{arith}
 use native.Mathlib.Nat.{le-refl, le-trans, lt-of-le-of-lt, mul-le-mul}
 use lib.Dec.{T, ltb, leb, ltb→lt, leb→le}
@@ -147,3 +147,7 @@ sized Γ {M} c t =
     let b = and-yes (sound c) (leb (size c) M) t in
     record
     { size = subst (λ (v : ℤ). natAbs v ≤ M) (sym (plain-is c (b .0))) (le-trans (size-holds c) (leb→le (size c) M (b .1))) }
+
+-- a call's result, behind its bits, is what the callee says of it
+pub returned : (w : Width) {r x : ℤ} → mag r < 2 ^ hbits w → r ≡ x → toZ w (ofZ w r) ≡ x
+returned w l e = toZ-ofZ (record { sfits = l }) ∙ e

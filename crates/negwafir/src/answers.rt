@@ -34,9 +34,9 @@ pub fn verdict(v: piece::Verdict) -> bool {
     }
 }
 
-// `ok`, or the refusal. The number 0 says that nothing is refused.
+// `ok`, or the refusal.
 pub fn done(r: rules::Refusal) -> bool {
-    if r.number == 0 {
+    if r.number == rules::DONE {
         return word(b"ok");
     }
     refused(r)

@@ -5,8 +5,9 @@ use Prim.Native.Nat.{ℕ, _-_, _≤_, _<_}
 use native.Mathlib.Omega.{arith}
 use lib.IntN.{ℤ}
 use lib.ListN.{length, set}
-use mir.Facts.{toZ-ofZ}
+use mir.Syntax.{w32}
 use borrow.Author.Needs.{needs}
+use Rattle.integers.specs.Sizes.{returned}
 use Rattle.slopes.specs.Slopes.{builtSlope}
 use Rattle.slopes.specs.Put.{put, length-put, put-none, put-next}
 use Rattle.slopes.proofs.point.renew.Statement.{statement}
@@ -54,7 +55,7 @@ loop-again c =
     let i = c .before .before .loop .i in (
       omega (arith, inv .0),
       omega (arith, c .before .loop-test .taken),
-      ap₂ (λ (list : List ℤ) (m : ℤ). set list i m) (inv .2) (toZ-ofZ (record { sfits = c .slope .ok }) ∙ c .slope .ensures)
+      ap₂ (λ (list : List ℤ) (m : ℤ). set list i m) (inv .2) (returned w32 (c .slope .ok) (c .slope .ensures))
           ∙ put-next (builtSlope (s .knots .now) (s .values .now)) (s .from) (s .slopes .now) i (inv .0),
     )
 

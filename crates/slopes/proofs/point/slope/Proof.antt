@@ -5,10 +5,10 @@ use Prim.Native.Nat.{ℕ, _+_, _-_, _<_}
 use native.Mathlib.Omega.{arith}
 use lib.IntN.{ℤ}
 use lib.ListN.{length}
-use mir.Syntax.{w64}
+use mir.Syntax.{w32, w64}
 use mir.Val.{toZ, ofZ}
-use mir.Facts.{toZ-ofZ}
 use borrow.Author.Needs.{needs}
+use Rattle.integers.specs.Sizes.{returned}
 use Rattle.cubic.specs.Piece.{unit}
 use Rattle.cubic.specs.Slopes.{endSlope, innerSlope}
 use Rattle.table.specs.Table.{step}
@@ -31,10 +31,10 @@ step-requires-2 : tie.Need-step-requires-2
 step-requires-2 c κs = search needs
 
 first-width : (c : tie.After-step) → toZ w64 (ofZ w64 (c .step .result)) ≡ step (c .before .before .args .knots .now) 0
-first-width c = toZ-ofZ (record { sfits = c .step .ok }) ∙ c .step .ensures
+first-width c = returned w64 (c .step .ok) (c .step .ensures)
 
 first-rise : (c : tie.After-step2) → toZ w64 (ofZ w64 (c .step2 .result)) ≡ step (c .before .before .before .args .values .now) 0
-first-rise c = toZ-ofZ (record { sfits = c .step2 .ok }) ∙ c .step2 .ensures
+first-rise c = returned w64 (c .step2 .ok) (c .step2 .ensures)
 
 end-requires : tie.Need-end-requires
 end-requires c κs =
@@ -44,8 +44,7 @@ end-requires c κs =
 returns : tie.Need-returns
 returns c =
     let s = c .before .before .before .before .args in
-    toZ-ofZ (record { sfits = c .end .ok })
-    ∙ c .end .ensures
+    returned w32 (c .end .ok) (c .end .ensures)
     ∙ ap₂ (endSlope unit) (first-width (c .before .before)) (first-rise (c .before))
     ∙ first-slope (s .knots .now) (s .values .now) (s .i) (c .before .before .before .if1 .taken)
 
@@ -64,10 +63,10 @@ sub-if2 : tie.Need-sub-if2
 sub-if2 c = search needs
 
 left-width : (c : tie.After-step3) → toZ w64 (ofZ w64 (c .step3 .result)) ≡ step (c .before .before .args .knots .now) (c .before .before .args .i - 1)
-left-width c = toZ-ofZ (record { sfits = c .step3 .ok }) ∙ c .step3 .ensures
+left-width c = returned w64 (c .step3 .ok) (c .step3 .ensures)
 
 left-rise : (c : tie.After-step4) → toZ w64 (ofZ w64 (c .step4 .result)) ≡ step (c .before .before .before .args .values .now) (c .before .before .before .args .i - 1)
-left-rise c = toZ-ofZ (record { sfits = c .step4 .ok }) ∙ c .step4 .ensures
+left-rise c = returned w64 (c .step4 .ok) (c .step4 .ensures)
 
 left-within : (c : tie.After-step4) → Within (toZ w64 (ofZ w64 (c .before .step3 .result))) (toZ w64 (ofZ w64 (c .step4 .result)))
 left-within c =
@@ -80,8 +79,7 @@ end-requires-2 c κs = left-within (c .before)
 returns-2 : tie.Need-returns-2
 returns-2 c =
     let s = c .before .before .before .before .before .args in
-    toZ-ofZ (record { sfits = c .end2 .ok })
-    ∙ c .end2 .ensures
+    returned w32 (c .end2 .ok) (c .end2 .ensures)
     ∙ ap₂ (endSlope unit) (left-width (c .before .before .before)) (left-rise (c .before .before))
     ∙ last-slope (s .knots .now) (s .values .now) (s .i) (c .before .before .before .before .if1 .left) (omega (arith, c .before .if2 .taken))
 
@@ -94,10 +92,10 @@ step-requires-6 : tie.Need-step-requires-6
 step-requires-6 c κs = search needs
 
 right-width : (c : tie.After-step5) → toZ w64 (ofZ w64 (c .step5 .result)) ≡ step (c .before .before .before .before .before .args .knots .now) (c .before .before .before .before .before .args .i)
-right-width c = toZ-ofZ (record { sfits = c .step5 .ok }) ∙ c .step5 .ensures
+right-width c = returned w64 (c .step5 .ok) (c .step5 .ensures)
 
 right-rise : (c : tie.After-step6) → toZ w64 (ofZ w64 (c .step6 .result)) ≡ step (c .before .before .before .before .before .before .args .values .now) (c .before .before .before .before .before .before .args .i)
-right-rise c = toZ-ofZ (record { sfits = c .step6 .ok }) ∙ c .step6 .ensures
+right-rise c = returned w64 (c .step6 .ok) (c .step6 .ensures)
 
 inner-point : (c : tie.Else2) → c .before .before .before .before .args .i + 1 < length (c .before .before .before .before .args .knots .now)
 inner-point c = omega (arith, c .if2 .left)
@@ -111,8 +109,7 @@ returns-3 : tie.Need-returns-3
 returns-3 c =
     let d = c .before .before .before .before in
     let s = d .before .before .before .args in
-    toZ-ofZ (record { sfits = c .inner .ok })
-    ∙ c .inner .ensures
+    returned w32 (c .inner .ok) (c .inner .ensures)
     ∙ same-pieces (left-width (d .before)) (left-rise d) (right-width (c .before .before)) (right-rise (c .before))
     ∙ inner-slope (s .knots .now) (s .values .now) (s .i) (d .before .before .if1 .left) (inner-point (c .before .before .before))
   where

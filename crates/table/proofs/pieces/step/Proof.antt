@@ -3,9 +3,8 @@ use mathlib.Core.Path.{_∙_}
 use mathlib.Core.List.{[], _∷_}
 use Prim.Native.Nat.{_+_}
 use borrow.Author.Needs.{needs}
-use mir.Syntax.{w32}
-use mir.Facts.{toZ-ofZ}
-use Rattle.integers.specs.Sizes.{held, plain-is, code}
+use mir.Syntax.{w32, w64}
+use Rattle.integers.specs.Sizes.{held, plain-is, code, returned}
 use Rattle.table.specs.Table.{entry}
 use Rattle.table.proofs.pieces.step.Statement.{statement}
 use Rattle.table.proofs.pieces.step.Tie as tie
@@ -33,7 +32,7 @@ returns c =
     let args = c .before .before .before .args in
     let left = held w32 (entry (args .list .now) (args .i)) (record { sfits = c .before .before .difference-arg .given }) in
     let right = held w32 (entry (args .list .now) (args .i + 1)) (record { sfits = c .before .difference-arg2 .given }) in
-    toZ-ofZ (record { sfits = c .difference .ok }) ∙ c .difference .ensures ∙ plain-is {Γ = left ∷ right ∷ []} (search code depth 30 fits 9000) tt
+    returned w64 (c .difference .ok) (c .difference .ensures) ∙ plain-is {Γ = left ∷ right ∷ []} (search code depth 30 fits 9000) tt
 
 pub step-spec : {M : Type 1} → statement M
 step-spec =
