@@ -4,7 +4,7 @@ use mathlib.Core.Logic.{⊎-elim}
 use mathlib.Core.List.{[], _∷_}
 use Prim.Native.Nat.{ℕ, zero, suc}
 use native.Mathlib.Omega.{arith}
-use lib.IntN.{ℤ, pos, negsuc, negℤ, _+ℤ_, _*ℤ_, *ℤ-comm}
+use lib.IntN.{ℤ, pos, negsuc, negℤ, _*ℤ_, *ℤ-comm}
 use lib.Signed.{_≤ℤ_, _<ℤ_}
 use Rattle.integers.specs.Promise.{floorOf, magnitude, withSign}
 use Rattle.integers.specs.Ring.{ring, quote}
@@ -15,9 +15,9 @@ use Rattle.integers.specs.Division.{0≤-floor, floor-low, toward-scaled}
 use Rattle.integers.specs.Parts.{<-from}
 use Rattle.cubic.specs.Piece.{NeverAgainst, Monotone}
 use Rattle.cubic.specs.Monotone.{monotone-rising, monotone-falling, monotone-level}
-use Rattle.cubic.specs.Slopes.{endSlope, meanOver, mean, innerSlope}
+use Rattle.cubic.specs.Slopes.{endSlope, meanAbove, meanBelow, mean, innerSlope}
 use Rattle.cubic.specs.Inner.{inner-level, inner-steep}
-use Rattle.cubic.specs.Built.{box-accepts, meanOver-mirrored, mean-in-box}
+use Rattle.cubic.specs.Built.{box-accepts, meanBelow-mirrored, mean-in-box}
 
 -- a slope with the sign of the rise and at most three times as steep as the piece
 pub record Fair (U h z m : ℤ) : Type 0 where
@@ -96,10 +96,10 @@ level-fair {U} u₀ h z =
 -- ---- the mean
 
 mean-mirrored : (U h₁ z₁ h₂ z₂ : ℤ) → mean U h₁ z₁ h₂ z₂ ≡ mean U h₂ z₂ h₁ z₁
-mean-mirrored U h₁ z₁ h₂ z₂ = ap₂ floorOf (over U h₁ z₁ h₂ z₂) (meanOver-mirrored h₁ z₁ h₂ z₂)
+mean-mirrored U h₁ z₁ h₂ z₂ = ap₂ floorOf (above U h₁ z₁ h₂ z₂) (meanBelow-mirrored h₁ z₁ h₂ z₂)
   where
-    over : (U h₁ z₁ h₂ z₂ : ℤ) → pos 3 *ℤ U *ℤ (h₁ +ℤ h₂) *ℤ z₁ *ℤ z₂ ≡ pos 3 *ℤ U *ℤ (h₂ +ℤ h₁) *ℤ z₂ *ℤ z₁
-    over U h₁ z₁ h₂ z₂ = ring (U ∷ h₁ ∷ z₁ ∷ h₂ ∷ z₂ ∷ []) (search quote depth 30 fits 9000) tt
+    above : (U h₁ z₁ h₂ z₂ : ℤ) → meanAbove U h₁ z₁ h₂ z₂ ≡ meanAbove U h₂ z₂ h₁ z₁
+    above U h₁ z₁ h₂ z₂ = ring (U ∷ h₁ ∷ z₁ ∷ h₂ ∷ z₂ ∷ []) (search quote depth 30 fits 9000) tt
 
 module _ {U h₁ h₂ : ℤ} (u₀ : pos 0 <ℤ U) (a : pos 0 <ℤ h₁) (b : pos 0 <ℤ h₂) where
   -- what the mean of two rises is at least and at most
@@ -109,11 +109,11 @@ module _ {U h₁ h₂ : ℤ} (u₀ : pos 0 <ℤ U) (a : pos 0 <ℤ h₁) (b : po
       let c = <ℤ→≤ℤ a in
       let d = <ℤ→≤ℤ b in
       let e = <ℤ→≤ℤ p in
-      let f = <ℤ→≤ℤ q in 0≤-floor (meanOver h₁ z₁ h₂ z₂) (search signs depth 9 fits 9000)
+      let f = <ℤ→≤ℤ q in 0≤-floor (meanBelow h₁ z₁ h₂ z₂) (search signs depth 9 fits 9000)
 
   pub mean-high : {z₁ z₂ : ℤ} → pos 0 <ℤ z₁ → pos 0 <ℤ z₂ → (mean U h₁ z₁ h₂ z₂ *ℤ h₁) ≤ℤ (pos 3 *ℤ (U *ℤ z₁))
   mean-high {z₁} {z₂} p q =
-      mean-in-box {h₂ = h₂} {z₂ = z₂} (<ℤ→≤ℤ u₀) a p b q (0≤-mean p q) (floor-low (pos 3 *ℤ U *ℤ (h₁ +ℤ h₂) *ℤ z₁ *ℤ z₂) {d = meanOver h₁ z₁ h₂ z₂} (search positives depth 9 fits 9000))
+      mean-in-box {h₂ = h₂} {z₂ = z₂} (<ℤ→≤ℤ u₀) a p b q (0≤-mean p q) (floor-low (meanAbove U h₁ z₁ h₂ z₂) {d = meanBelow h₁ z₁ h₂ z₂} (search positives depth 9 fits 9000))
 
   -- it is fair to the piece on its left
   pub inner-fair : (z₁ z₂ : ℤ) → Fair U h₁ z₁ (innerSlope U h₁ z₁ h₂ z₂)

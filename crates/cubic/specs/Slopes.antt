@@ -10,12 +10,16 @@ abbrev pub endSlope : (U h z : ℤ) → ℤ
 endSlope U h z = towardZero (U *ℤ z) h
 
 -- the denominator "(h1 + 2·h2)·h1·z2 + (2·h1 + h2)·h2·z1"
-abbrev pub meanOver : (h₁ z₁ h₂ z₂ : ℤ) → ℤ
-meanOver h₁ z₁ h₂ z₂ = (h₁ +ℤ pos 2 *ℤ h₂) *ℤ h₁ *ℤ z₂ +ℤ (pos 2 *ℤ h₁ +ℤ h₂) *ℤ h₂ *ℤ z₁
+abbrev pub meanBelow : (h₁ z₁ h₂ z₂ : ℤ) → ℤ
+meanBelow h₁ z₁ h₂ z₂ = (h₁ +ℤ pos 2 *ℤ h₂) *ℤ h₁ *ℤ z₂ +ℤ (pos 2 *ℤ h₁ +ℤ h₂) *ℤ h₂ *ℤ z₁
 
--- of two rises above 0: "768·(h1 + h2)·z1·z2 / [that] rounded down"; 768 is three times the unit
+-- the numerator "768·(h1 + h2)·z1·z2", where 768 is three times the unit
+abbrev pub meanAbove : (U h₁ z₁ h₂ z₂ : ℤ) → ℤ
+meanAbove U h₁ z₁ h₂ z₂ = pos 3 *ℤ U *ℤ (h₁ +ℤ h₂) *ℤ z₁ *ℤ z₂
+
+-- of two rises above 0: their quotient "rounded down"
 abbrev pub mean : (U h₁ z₁ h₂ z₂ : ℤ) → ℤ
-mean U h₁ z₁ h₂ z₂ = floorOf (pos 3 *ℤ U *ℤ (h₁ +ℤ h₂) *ℤ z₁ *ℤ z₂) (meanOver h₁ z₁ h₂ z₂)
+mean U h₁ z₁ h₂ z₂ = floorOf (meanAbove U h₁ z₁ h₂ z₂) (meanBelow h₁ z₁ h₂ z₂)
 
 -- "If z1·z2 ≤ 0 its slope is 0. Otherwise, with magnitudes of z1 and z2, it is [the mean], then given the sign of the rises."
 abbrev pub innerSlope : (U h₁ z₁ h₂ z₂ : ℤ) → ℤ

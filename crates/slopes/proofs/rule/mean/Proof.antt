@@ -1,7 +1,7 @@
 -- `slopes::rule::mean` meets its contract: every step fits, and the quotient is at most three times the left piece's slope.
 use mathlib.Core.Path.{_≡_, sym, _∙_, subst}
 use mathlib.Core.List.{List, [], _∷_}
-use lib.IntN.{ℤ, pos, _+ℤ_, _*ℤ_}
+use lib.IntN.{ℤ, pos}
 use lib.Signed.{_≤ℤ_, quotZ}
 use mir.Syntax.{w32}
 use mir.Val.{SFits}
@@ -11,7 +11,7 @@ use Rattle.integers.specs.Division.{quot-toward, toward-floor}
 use Rattle.integers.specs.Sizes.{Known, known, listed, first, fits, plain-is, code}
 use Rattle.integers.specs.Tests.{zeros, not-zero}
 use Rattle.cubic.specs.Piece.{unit}
-use Rattle.cubic.specs.Slopes.{mean, meanOver}
+use Rattle.cubic.specs.Slopes.{meanAbove, meanBelow, mean}
 use Rattle.rules.specs.Known.{known-width, known-rise}
 use Rattle.slopes.specs.Sizes.{0<-width, mean-within}
 use Rattle.slopes.proofs.rule.mean.Statement.{statement}
@@ -74,7 +74,7 @@ add-below-3 c = fits (given c) (search code depth 30 fits 9000) tt
 -- ---- their quotient
 
 -- the sum below is above 0
-divisor : (s : tie.Start) → pos 1 ≤ℤ meanOver (s .args .h1) (s .args .z1) (s .args .h2) (s .args .z2)
+divisor : (s : tie.Start) → pos 1 ≤ℤ meanBelow (s .args .h1) (s .args .z1) (s .args .h2) (s .args .z2)
 divisor s =
     let h₁ = 0<-width (s .pre .0 .within .width) in
     let z₁ = s .pre .0 .up in
@@ -86,15 +86,15 @@ div-steepness c =
     let Γ = given c in
     (not-zero Γ (search zeros depth 30 fits 9000) tt (divisor c), fits Γ (search code depth 30 fits 9000) tt)
 
-is-mean : (s : tie.Start) → let a = s .args in quotZ (pos 3 *ℤ unit *ℤ (a .h1 +ℤ a .h2) *ℤ a .z1 *ℤ a .z2) (meanOver (a .h1) (a .z1) (a .h2) (a .z2)) ≡ mean unit (a .h1) (a .z1) (a .h2) (a .z2)
+is-mean : (s : tie.Start) → let a = s .args in quotZ (meanAbove unit (a .h1) (a .z1) (a .h2) (a .z2)) (meanBelow (a .h1) (a .z1) (a .h2) (a .z2)) ≡ mean unit (a .h1) (a .z1) (a .h2) (a .z2)
 is-mean s =
     let a = s .args in
     let h₁ = <ℤ→≤ℤ (0<-width (s .pre .0 .within .width)) in
     let z₁ = <ℤ→≤ℤ (s .pre .0 .up) in
     let h₂ = <ℤ→≤ℤ (0<-width (s .pre .1 .within .width)) in
     let z₂ = <ℤ→≤ℤ (s .pre .1 .up) in
-    quot-toward (pos 3 *ℤ unit *ℤ (a .h1 +ℤ a .h2) *ℤ a .z1 *ℤ a .z2) (divisor s)
-    ∙ toward-floor (meanOver (a .h1) (a .z1) (a .h2) (a .z2)) (search signs depth 9 fits 9000)
+    quot-toward (meanAbove unit (a .h1) (a .z1) (a .h2) (a .z2)) (divisor s)
+    ∙ toward-floor (meanBelow (a .h1) (a .z1) (a .h2) (a .z2)) (search signs depth 9 fits 9000)
 
 -- it fits 32 bits
 small : (s : tie.Start) → let a = s .args in SFits w32 (mean unit (a .h1) (a .z1) (a .h2) (a .z2))
