@@ -1,6 +1,6 @@
 // The verdict on one piece: rising, falling, flat or bends, or the refusal of a piece outside the limits.
 ghost use Rattle.integers.specs.Promise.{Decided};
-ghost use Rattle.cubic.specs.Piece.{NeverAgainst};
+ghost use Rattle.cubic.specs.Piece.{unit, NeverAgainst, Monotone};
 ghost use Rattle.cubic.specs.Slope.{Inside};
 ghost use Rattle.rules.specs.Limits.{WidthWithin, RiseWithin};
 ghost use Rattle.piece.specs.Promise.{Judged, answerOf};
@@ -49,33 +49,28 @@ fn never_against(rise: i64, a: i64, b: i64) -> bool
     in_ellipse(over, a, b)
 }
 
-// The verdict on a piece within the limits: the test for its rise's sign, or level throughout where it has none.
-fn shape(h: i64, z: i64, m: i32, n: i32) -> Verdict
+// Whether a piece within the limits is monotone: the test for its rise's sign, or level throughout where it has none.
+pub fn is_monotone(h: i64, z: i64, m: i32, n: i32) -> bool
     requires { ⌜ WidthWithin h ⌝ }
     requires { ⌜ RiseWithin z ⌝ }
-    ensures { λ r. ⌜ Judged h z m n (answerOf r) ⌝ }
+    ensures { λ r. ⌜ Decided (Monotone unit h z m n) r ⌝ }
 {
     let rise = rules::UNIT * z;
     let a = (m as i64) * h;
     let b = (n as i64) * h;
     if 0 < z {
-        if never_against(rise, a, b) {
-            return Verdict::Rising;
-        }
-        return Verdict::Bends; // down on its way up
+        return never_against(rise, a, b);
     }
     if z < 0 {
-        if never_against(-rise, -a, -b) {
-            return Verdict::Falling;
-        }
-        return Verdict::Bends; // up on its way down
+        return never_against(-rise, -a, -b);
     }
-    if a == 0 {
-        if b == 0 {
-            return Verdict::Flat;
-        }
+    if a != 0 {
+        return false;
     }
-    Verdict::Bends // a slope where there is no rise
+    if b != 0 {
+        return false;
+    }
+    true
 }
 
 // The verdict on the piece of width h and rise z with the slopes m and n at its ends, or its refusal: by 3 where the width, else by 4 where
@@ -95,5 +90,14 @@ pub fn judge(h: i64, z: i64, m: i32, n: i32) -> Verdict
             place: 0,
         });
     }
-    shape(h, z, m, n)
+    if !is_monotone(h, z, m, n) {
+        return Verdict::Bends;
+    }
+    if 0 < z {
+        return Verdict::Rising;
+    }
+    if z < 0 {
+        return Verdict::Falling;
+    }
+    Verdict::Flat
 }

@@ -1,11 +1,12 @@
--- `piece::shape` meets its contract: each way through the code is one case of the promise.
+-- `piece::is_monotone` meets its contract: each way through the code is one clause of the definition.
 use mathlib.Core.Path.{_≡_, sym, subst}
 use mathlib.Core.List.{List, [], _∷_}
 use native.Mathlib.Omega.{arith}
 use lib.IntN.{ℤ, pos, negℤ, _*ℤ_}
 use lib.Signed.{_<ℤ_}
 use mir.Syntax.{w32}
-use Rattle.integers.specs.Decided.{told, denied}
+use Rattle.integers.specs.Promise.{holds, fails}
+use Rattle.integers.specs.Decided.{decided-by, told, denied}
 use Rattle.integers.specs.Linear.{lin, says}
 use Rattle.integers.specs.Order.{≤ℤ-antisym}
 use Rattle.integers.specs.Sizes.{Known, held, fits, sized, plain-is, code}
@@ -14,10 +15,8 @@ use Rattle.integers.specs.Arguments.{plainly₃, as-coded₃, arguments}
 use Rattle.cubic.specs.Piece.{NeverAgainst}
 use Rattle.cubic.specs.Monotone.{monotone-rising, monotone-falling, monotone-level}
 use Rattle.rules.specs.Known.{known-width, known-rise}
-use Rattle.piece.specs.Promise.{bent}
-use Rattle.piece.specs.Leaning.{is-rising, is-falling, is-flat}
-use Rattle.piece.proofs.shape.Statement.{statement}
-use Rattle.piece.proofs.shape.Tie as tie
+use Rattle.piece.proofs.is_monotone.Statement.{statement}
+use Rattle.piece.proofs.is_monotone.Tie as tie
 
 -- what the limits and the types say of the arguments
 abbrev given : tie.Start → List Known
@@ -63,24 +62,14 @@ never-against-requires c κs =
 
 returns : tie.Need-returns
 returns c =
-    let p = c .before .before in
-    let s = p .before in
-    is-rising (s .pre .0) (s .pre .1) (up p)
-    (monotone-rising (up p)
-    (plainly₃ (given s) NeverAgainst (told (c .before .never-against .ensures) (c .if2 .taken)) (search arguments depth 30 fits 9000) tt))
-
-returns-2 : tie.Need-returns-2
-returns-2 c =
-    let p = c .before .before in
-    let s = p .before in
-    bent (s .pre .0) (s .pre .1)
-    (λ m. denied (c .before .never-against .ensures) (c .if2 .left)
-    (as-coded₃ (given s) NeverAgainst (search arguments depth 30 fits 9000) tt (m .rising (up p))))
+    let p = c .before in
+    decided-by _ (λ e. monotone-rising (up p) (plainly₃ (given (p .before)) NeverAgainst (told (c .never-against .ensures) e) (search arguments depth 30 fits 9000) tt))
+    (λ e m. denied (c .never-against .ensures) e (as-coded₃ (given (p .before)) NeverAgainst (search arguments depth 30 fits 9000) tt (m .rising (up p))))
 
 -- ---- a fall
 
-down : (c : tie.Then3) → c .before .before .args .z <ℤ pos 0
-down c = passed (given (c .before .before)) (c .if3 .taken) (search tests depth 30 fits 9000) tt
+down : (c : tie.Then2) → c .before .before .args .z <ℤ pos 0
+down c = passed (given (c .before .before)) (c .if2 .taken) (search tests depth 30 fits 9000) tt
 
 sub-never-against : tie.Need-sub-never-against
 sub-never-against c = fits (given (c .before .before)) (search code depth 30 fits 9000) tt
@@ -104,55 +93,40 @@ never-against-requires-2 c κs =
     scaled : {z : ℤ} → z <ℤ pos 0 → pos 0 <ℤ negℤ (pos 256 *ℤ z)
     scaled {z} = lin (z ∷ []) (search says depth 30 fits 9000) (omega arith)
 
+returns-2 : tie.Need-returns-2
+returns-2 c =
+    let p = c .before in
+    let s = p .before .before in
+    decided-by _ (λ e. monotone-falling (down p) (plainly₃ (given s) NeverAgainst (told (c .never-against2 .ensures) e) (search arguments depth 30 fits 9000) tt))
+    (λ e m. denied (c .never-against2 .ensures) e (as-coded₃ (given s) NeverAgainst (search arguments depth 30 fits 9000) tt (m .falling (down p))))
+
+-- ---- neither
+
+level : (c : tie.Else2) → c .before .before .args .z ≡ pos 0
+level c =
+    let Γ = given (c .before .before) in
+    ≤ℤ-antisym (failed Γ (c .before .if1 .left) (search tests depth 30 fits 9000) tt)
+    (failed Γ (c .if2 .left) (search tests depth 30 fits 9000) tt)
+
 returns-3 : tie.Need-returns-3
 returns-3 c =
-    let p = c .before .before in
-    let s = p .before .before in
-    is-falling (s .pre .0) (s .pre .1) (down p)
-    (monotone-falling (down p)
-    (plainly₃ (given s) NeverAgainst (told (c .before .never-against2 .ensures) (c .if4 .taken)) (search arguments depth 30 fits 9000) tt))
+    let p = c .before in
+    fails (λ m. zero-no (given (p .before .before)) (c .if3 .taken) (search zeros depth 30 fits 9000) tt (m .level (level p) .0))
 
 returns-4 : tie.Need-returns-4
 returns-4 c =
     let p = c .before .before in
-    let s = p .before .before in
-    bent (s .pre .0) (s .pre .1)
-    (λ m. denied (c .before .never-against2 .ensures) (c .if4 .left)
-    (as-coded₃ (given s) NeverAgainst (search arguments depth 30 fits 9000) tt (m .falling (down p))))
-
--- ---- neither
-
-level : (c : tie.Else3) → c .before .before .args .z ≡ pos 0
-level c =
-    let Γ = given (c .before .before) in
-    ≤ℤ-antisym (failed Γ (c .before .if1 .left) (search tests depth 30 fits 9000) tt)
-    (failed Γ (c .if3 .left) (search tests depth 30 fits 9000) tt)
+    fails (λ m. zero-no (given (p .before .before)) (c .if4 .taken) (search zeros depth 30 fits 9000) tt (m .level (level p) .1))
 
 returns-5 : tie.Need-returns-5
 returns-5 c =
     let p = c .before .before in
     let s = p .before .before in
-    is-flat (s .pre .0) (s .pre .1) (level p)
-    (monotone-level (level p)
-    (zero-yes (given s) (c .before .if5 .taken) (search zeros depth 30 fits 9000) tt)
-    (zero-yes (given s) (c .if6 .taken) (search zeros depth 30 fits 9000) tt))
+    holds
+    (monotone-level (level p) (zero-yes (given s) (c .before .if3 .left) (search zeros depth 30 fits 9000) tt) (zero-yes (given s) (c .if4 .left) (search zeros depth 30 fits 9000) tt))
 
-returns-6 : tie.Need-returns-6
-returns-6 c =
-    let p = c .before .before in
-    let s = p .before .before in
-    bent (s .pre .0) (s .pre .1)
-    (λ m. zero-no (given s) (c .if6 .left) (search zeros depth 30 fits 9000) tt (m .level (level p) .1))
-
-returns-7 : tie.Need-returns-7
-returns-7 c =
-    let p = c .before in
-    let s = p .before .before in
-    bent (s .pre .0) (s .pre .1)
-    (λ m. zero-no (given s) (c .if5 .left) (search zeros depth 30 fits 9000) tt (m .level (level p) .0))
-
-pub shape-spec : {M : Type 1} → statement M
-shape-spec =
+pub is-monotone-spec : {M : Type 1} → statement M
+is-monotone-spec =
     tie.close
     (tie.spec
     mul-rise
@@ -162,13 +136,11 @@ shape-spec =
     mul-b
     never-against-requires
     returns
-    returns-2
     sub-never-against
     sub-never-against-2
     sub-never-against-3
     never-against-requires-2
+    returns-2
     returns-3
     returns-4
-    returns-5
-    returns-6
-    returns-7)
+    returns-5)
