@@ -5,6 +5,10 @@ pub mod Never
 pub mod Test
 pub mod Monotone
 pub mod Rise
+pub mod Value
+pub mod Along
+pub mod InOrder
+pub mod Small
 pub mod Built
 pub mod Inner
 pub mod Fair

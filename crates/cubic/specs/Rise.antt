@@ -39,19 +39,6 @@ in-order {Z} {a} {b} f j k q j₀ jk kq q₁ =
     middle : (j k q : ℤ) → pos 0 ≤ℤ j → j ≤ℤ k → k ≤ℤ q → pos 1 ≤ℤ q → (pos 0 ≤ℤ (j +ℤ k)) × (((j +ℤ k) ≤ℤ (pos 2 *ℤ q)) × (pos 1 ≤ℤ (pos 2 *ℤ q)))
     middle j k q = lin (j ∷ k ∷ q ∷ []) (search says depth 30 fits 9000) (omega arith)
 
--- ---- between the piece's two values
-
-pub record RiseBounded (Z a b t h : ℤ) : Type 0 where
-  pub low : pos 0 ≤ℤ riseAt Z a b t h
-  pub high : riseAt Z a b t h ≤ℤ (Z *ℤ (h *ℤ h *ℤ h))
-
-pub rise-bounded : {Z a b : ℤ} → NeverAgainst Z a b → (t h : ℤ) → pos 0 ≤ℤ t → t ≤ℤ h → pos 1 ≤ℤ h → RiseBounded Z a b t h
-rise-bounded {Z} {a} {b} f t h t₀ t₁ h₁ =
-    record {
-      low = subst (λ (v : ℤ). v ≤ℤ riseAt Z a b t h) (at-left Z a b h) (in-order f (pos 0) t h (≤ℤ-refl (pos 0)) t₀ t₁ h₁);
-      high = subst (λ (v : ℤ). riseAt Z a b t h ≤ℤ v) (at-right Z a b h) (in-order f t h h t₀ t₁ (≤ℤ-refl h) h₁);
-    }
-
 -- ---- by Horner's steps, and how large each can be
 
 pub horner : (Z a b t h : ℤ) → riseAt Z a b t h ≡ (((a +ℤ b -ℤ pos 2 *ℤ Z) *ℤ t +ℤ (pos 3 *ℤ Z -ℤ pos 2 *ℤ a -ℤ b) *ℤ h) *ℤ t +ℤ a *ℤ (h *ℤ h)) *ℤ t

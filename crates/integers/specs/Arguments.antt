@@ -1,5 +1,5 @@
 -- A relation of a call's arguments, as the code has them and plainly: of four, and so of two or three.
-use mathlib.Core.Path.{sym, subst₂}
+use mathlib.Core.Path.{_≡_, sym, subst₂}
 use mathlib.Core.Bool.{Bool, _&&_}
 use mathlib.Core.List.{List}
 use lib.Dec.{T}
@@ -20,22 +20,25 @@ sound-all (four c d e f) = (sound c && sound d) && (sound e && sound f)
 abbrev pub Plainly : (ℤ → ℤ → ℤ → ℤ → Type 0) → {Γ : List Known} {x y z u : ℤ} → Four Γ x y z u → Type 0
 Plainly R (four c d e f) = R (plain c) (plain d) (plain e) (plain f)
 
--- what holds of the arguments as the code has them holds of the plain values, and the other way round
+-- what holds of four numbers holds of them under other names
+pub same₄ : (R : ℤ → ℤ → ℤ → ℤ → Type 0) {x y z u x' y' z' u' : ℤ} → x ≡ x' → y ≡ y' → z ≡ z' → u ≡ u' → R x y z u → R x' y' z' u'
+same₄ R {z = z} {u = u} {x' = x'} {y' = y'} e f g h r =
+    subst₂ (λ (z u : ℤ). R x' y' z u) g h (subst₂ (λ (x y : ℤ). R x y z u) e f r)
+
+-- so of the arguments as the code has them and of the plain values, both ways
 pub plainly₄ : (Γ : List Known) (R : ℤ → ℤ → ℤ → ℤ → Type 0) {x y z u : ℤ} → R x y z u → (t : Four Γ x y z u) → T (sound-all t) → Plainly R t
-plainly₄ Γ R {z = z} {u = u} h (four c d e f) t =
+plainly₄ Γ R h (four c d e f) t =
     let s = and-yes (sound c && sound d) (sound e && sound f) t in
     let a = and-yes (sound c) (sound d) (s .0) in
     let b = and-yes (sound e) (sound f) (s .1) in
-    subst₂ (λ (z u : ℤ). R (plain c) (plain d) z u) (plain-is e (b .0)) (plain-is f (b .1))
-    (subst₂ (λ (x y : ℤ). R x y z u) (plain-is c (a .0)) (plain-is d (a .1)) h)
+    same₄ R (plain-is c (a .0)) (plain-is d (a .1)) (plain-is e (b .0)) (plain-is f (b .1)) h
 
 pub as-coded₄ : (Γ : List Known) (R : ℤ → ℤ → ℤ → ℤ → Type 0) {x y z u : ℤ} (t : Four Γ x y z u) → T (sound-all t) → Plainly R t → R x y z u
-as-coded₄ Γ R {z = z} {u = u} (four c d e f) t h =
+as-coded₄ Γ R (four c d e f) t h =
     let s = and-yes (sound c && sound d) (sound e && sound f) t in
     let a = and-yes (sound c) (sound d) (s .0) in
     let b = and-yes (sound e) (sound f) (s .1) in
-    subst₂ (λ (x y : ℤ). R x y z u) (sym (plain-is c (a .0))) (sym (plain-is d (a .1)))
-    (subst₂ (λ (z u : ℤ). R (plain c) (plain d) z u) (sym (plain-is e (b .0))) (sym (plain-is f (b .1))) h)
+    same₄ R (sym (plain-is c (a .0))) (sym (plain-is d (a .1))) (sym (plain-is e (b .0))) (sym (plain-is f (b .1))) h
 
 -- ---- of two, and of three
 

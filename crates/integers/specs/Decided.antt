@@ -1,12 +1,12 @@
 -- How a bool that says whether a statement holds is made and used.
 use mathlib.Core.Path.{_≡_, refl, subst}
 use mathlib.Core.Bool.{Bool, true, false, not}
-use mathlib.Core.Logic.{_⊎_, inl, inr}
+use mathlib.Core.Logic.{_⊎_, inl, inr, ⊎-elim}
 use lib.Dec.{T}
 use lib.IntN.{ℤ}
-use lib.Signed.{_≤ℤ_, _<ℤ_, clashℤ}
+use lib.Signed.{_≤ℤ_, _<ℤ_, clashℤ, ≤ℤ-refl}
 use Rattle.integers.specs.Promise.{Between, Decided, holds, fails}
-use Rattle.integers.specs.Order.{≤ℤ-or-<ℤ}
+use Rattle.integers.specs.Order.{≤ℤ-or-<ℤ, ≤ℤ-antisym}
 
 -- by a test that is true where A holds
 pub decided-by : {A : Type 0} (b : Bool) → (b ≡ true → A) → (b ≡ false → A → ⊥) → Decided A b
@@ -37,6 +37,14 @@ one-decision (fails f) (fails g) = refl
 pub stable : {A : Type 0} → A ⊎ (A → ⊥) → ((A → ⊥) → ⊥) → A
 stable (inl a) f = a
 stable (inr g) f = absurd (f g)
+
+pub ≤ℤ-stable : {x y : ℤ} → ((x ≤ℤ y → ⊥) → ⊥) → x ≤ℤ y
+≤ℤ-stable {x} {y} f = ⊎-elim (λ h. h) (λ l. absurd (f (λ h. clashℤ l h))) (≤ℤ-or-<ℤ x y)
+
+pub ≡ℤ-stable : {x y : ℤ} → ((x ≡ y → ⊥) → ⊥) → x ≡ y
+≡ℤ-stable {x} {y} f =
+    ≤ℤ-antisym (≤ℤ-stable (λ g. f (λ e. g (subst (λ (v : ℤ). x ≤ℤ v) e (≤ℤ-refl x)))))
+    (≤ℤ-stable (λ g. f (λ e. g (subst (λ (v : ℤ). v ≤ℤ x) e (≤ℤ-refl x)))))
 
 pub between-or-not : (l x h : ℤ) → Between l x h ⊎ (Between l x h → ⊥)
 between-or-not l x h = go (≤ℤ-or-<ℤ l x) (≤ℤ-or-<ℤ x h)

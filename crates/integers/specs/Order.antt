@@ -83,6 +83,9 @@ pub 0<-gap : {x y : ℤ} → x <ℤ y → pos 0 <ℤ (y -ℤ x)
 pub 0≤-minus : {x : ℤ} → x ≤ℤ pos 0 → pos 0 ≤ℤ (negℤ x)
 0≤-minus {x} = lin (x ∷ []) (search says depth 30 fits 9000) (omega arith)
 
+pub 0<-minus : {x : ℤ} → x <ℤ pos 0 → pos 0 <ℤ (negℤ x)
+0<-minus {x} = lin (x ∷ []) (search says depth 30 fits 9000) (omega arith)
+
 pub ruleset signs = (0≤-square, 0≤-plus, 0≤-product, 0≤-number, 0≤-gap, 0≤-minus)
 
 -- the sign of another form of the same number
@@ -119,9 +122,6 @@ pub ruleset positives = (0<-plus, 0<-product, 0<-suc)
 pub 0≤-cancel : {k x : ℤ} → pos 0 <ℤ k → pos 0 ≤ℤ (k *ℤ x) → pos 0 ≤ℤ x
 0≤-cancel {k} {x} h p = ⊎-elim (λ l. l) (λ l. clash x (k *ℤ x) (0<-product h (0<-minus l)) p (ring (k ∷ x ∷ []) (search quote depth 30 fits 9000) tt)) (≤ℤ-or-<ℤ (pos 0) x)
   where
-    0<-minus : {x : ℤ} → x <ℤ pos 0 → pos 0 <ℤ (negℤ x)
-    0<-minus {x} = lin (x ∷ []) (search says depth 30 fits 9000) (omega arith)
-
     clash : (x p : ℤ) → pos 0 <ℤ (k *ℤ negℤ x) → pos 0 ≤ℤ p → k *ℤ negℤ x ≡ negℤ p → pos 0 ≤ℤ x
     clash x p = lin ((k *ℤ negℤ x) ∷ p ∷ x ∷ []) (search says depth 30 fits 9000) (omega arith)
 

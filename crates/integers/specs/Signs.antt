@@ -28,6 +28,12 @@ pub sign-down : (s x : ℤ) → s <ℤ pos 0 → withSign s x ≡ negℤ x
 sign-down (pos n) x h = absurd (omega (arith, <-to (pos n) (pos 0) h))
 sign-down (negsuc n) x h = refl
 
+-- three ways: above 0, below it, or 0
+pub by-sign : {X : Type 0} (x : ℤ) → (pos 0 <ℤ x → X) → (x <ℤ pos 0 → X) → (x ≡ pos 0 → X) → X
+by-sign (pos zero) up down level = level refl
+by-sign (pos (suc n)) up down level = up (0<-suc n)
+by-sign (negsuc n) up down level = down (<-from (negsuc n) (pos 0) (omega arith))
+
 -- ---- two numbers
 
 not-below : (n : ℕ) → pos 0 <ℤ negℤ (pos n) → ⊥

@@ -47,6 +47,12 @@ pub within-high : {M : ℕ} {x : ℤ} → Within M x → x ≤ℤ pos M
 within-high {M} {x = pos n} h = ≤-from (pos n) (pos M) (omega (arith, h .size))
 within-high {M} {x = negsuc n} h = ≤-from (negsuc n) (pos M) (omega arith)
 
+pub within-minus : {M : ℕ} (x : ℤ) → Within M x → Within M (negℤ x)
+within-minus {M} x h = record { size = subst (λ (n : ℕ). n ≤ M) (sym (natAbs-minus x)) (h .size) }
+
+pub minus-within : {M : ℕ} (x : ℤ) → Within M (negℤ x) → Within M x
+minus-within {M} x h = record { size = subst (λ (n : ℕ). n ≤ M) (natAbs-minus x) (h .size) }
+
 pub within-more : {M N : ℕ} {x : ℤ} → T (leb M N) → Within M x → Within N x
 within-more {M} {N} t h = record { size = le-trans (h .size) (leb→le M N t) }
 

@@ -1,11 +1,11 @@
 -- Laws of the order of refusals: one number and place only, how the answers to parts of an order make the answer to the whole, and what is
--- left in a list.
+-- left in a list or answered.
 use mathlib.Core.Path.{_≡_, refl, sym, ap}
-use mathlib.Core.List.{List, _∷_, _++_}
+use mathlib.Core.List.{List, [], _∷_, _++_}
 use Prim.Native.Nat.{ℕ, zero, suc, _<_}
 use lib.IntN.{ℤ}
 use native.Mathlib.Omega.{arith}
-use Rattle.rules.specs.Refusals.{Given, done, refused, passed, afterwards}
+use Rattle.rules.specs.Refusals.{Given, done, refused, passed, afterwards, Answered, nothing, answered}
 
 module _ {H : ℕ → ℕ → Type 0} where
   -- two answers to one question are the same
@@ -45,6 +45,32 @@ module _ {H : ℕ → ℕ → Type 0} where
   rest e (refused h f) = absurd (omega (arith, e))
   rest e (passed f g) = g
 
+  -- a pass of a whole order is a pass of its front and of what stands behind
+  pub front : (order more : List ℕ) {n p : ℕ} → n ≡ 0 → Given H (order ++ more) n p → Given H order 0 0
+  front [] more e g = done
+  front (c ∷ order) more e (refused h f) = absurd (omega (arith, e))
+  front (c ∷ order) more e (passed f g) = passed f (front order more e g)
+
+  pub behind : (order : List ℕ) {more : List ℕ} {n p : ℕ} → n ≡ 0 → Given H (order ++ more) n p → Given H more n p
+  behind [] e g = g
+  behind (c ∷ order) e g = behind order e (rest e g)
+
+-- ---- an order is asked of its own causes alone
+
+-- H and K say the same of the causes of an order
+pub data Same (H K : ℕ → ℕ → Type 0) : List ℕ → Type 0 where
+  none : Same H K []
+  also : {c : ℕ} {order : List ℕ} → ((p : ℕ) → H c p → K c p) → ((p : ℕ) → K c p → H c p) → Same H K order → Same H K (c ∷ order)
+
+pub other-way : {H K : ℕ → ℕ → Type 0} {order : List ℕ} → Same H K order → Same K H order
+other-way none = none
+other-way (also f g s) = also g f (other-way s)
+
+pub carried : {H K : ℕ → ℕ → Type 0} {order : List ℕ} {n p : ℕ} → Same H K order → Given H order n p → Given K order n p
+carried s done = done
+carried (also f g s) (refused h e) = refused (f _ h) (λ q l k. e q l (g q k))
+carried (also f g s) (passed e h) = passed (λ q k. e q (g q k)) (carried s h)
+
 -- ---- what a call leaves in a list
 
 pub kept : {n : ℕ} (old new : List ℤ) → (n ≡ 0 → ⊥) → old ≡ afterwards n old new
@@ -53,3 +79,19 @@ kept {n = suc n} old new f = refl
 
 pub replaced : {n : ℕ} (old new : List ℤ) → n ≡ 0 → new ≡ afterwards n old new
 replaced old new e = ap (λ (n : ℕ). afterwards n old new) (sym e)
+
+-- ---- what a call answers beside its refusal
+
+module _ {A : Type 0} {Right : A → Type 0} {none : A} where
+  pub refused-answer : {n : ℕ} → (n ≡ 0 → ⊥) → Answered Right none n none
+  refused-answer {n = zero} f = absurd (f refl)
+  refused-answer {n = suc n} f = nothing
+
+  pub right-answer : {n : ℕ} {a : A} → n ≡ 0 → Right a → Answered Right none n a
+  right-answer {n = zero} e r = answered r
+  right-answer {n = suc n} e r = absurd (omega (arith, e))
+
+  -- one only, where one only is right
+  pub one-answered : {n : ℕ} {a b : A} → (Right a → Right b → a ≡ b) → Answered Right none n a → Answered Right none n b → a ≡ b
+  one-answered f nothing nothing = refl
+  one-answered f (answered r) (answered s) = f r s

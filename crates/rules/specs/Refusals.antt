@@ -14,3 +14,8 @@ pub data Given (Holds : ℕ → ℕ → Type 0) : List ℕ → ℕ → ℕ → T
 abbrev pub afterwards : ℕ → (old new : List ℤ) → List ℤ
 afterwards zero old new = new
 afterwards (suc number) old new = old
+
+-- "and its value, if it has one, is 0": what a call answers beside its refusal, where `Right` says which answers are right and `none` is the 0.
+pub data Answered {A : Type 0} (Right : A → Type 0) (none : A) : ℕ → A → Type 0 where
+  nothing : {number : ℕ} → Answered Right none (suc number) none
+  answered : {a : A} → Right a → Answered Right none 0 a

@@ -21,6 +21,10 @@ pub const COUNT: u32 = 2;
 pub const WIDTH: u32 = 3;
 // A rise is outside its limits.
 pub const RISE: u32 = 4;
+// A piece is not monotone.
+pub const BEND: u32 = 5;
+// A position before the first or after the last knot.
+pub const POSITION: u32 = 6;
 
 // Whether a number of points is in 2 to 1,024.
 pub fn count_within(n: usize) -> bool

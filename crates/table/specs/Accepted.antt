@@ -1,15 +1,16 @@
--- What is known of points that no cause of a refusal holds of.
-use mathlib.Core.Path.{_≡_}
-use mathlib.Core.List.{List}
+-- What is known of points, and of a table, that no cause of a refusal holds of.
+use mathlib.Core.Path.{_≡_, refl}
+use mathlib.Core.List.{List, [], _∷_}
 use Prim.Native.Nat.{ℕ, _+_, _≤_, _<_}
 use native.Mathlib.Omega.{arith}
 use lib.IntN.{ℤ}
 use lib.ListN.{length}
 use Rattle.integers.specs.Decided.{stable, between-or-not}
+use Rattle.cubic.specs.Monotone.{monotone-stable}
 use Rattle.rules.specs.Limits.{CountWithin, WidthWithin, RiseWithin}
 use Rattle.rules.specs.Refusals.{Given, done, passed}
-use Rattle.rules.specs.Order.{clear, rest}
-use Rattle.table.specs.Table.{Table, table, step, points, SameLengths, Holds, lengths-differ, too-few-or-many, width-outside, rise-outside, buildOrder}
+use Rattle.rules.specs.Order.{clear, rest, front, behind}
+use Rattle.table.specs.Table.{Table, table, step, points, SameLengths, MonotoneAt, Holds, lengths-differ, too-few-or-many, width-outside, rise-outside, not-monotone, buildOrder, checkOrder}
 
 -- as many values as knots, in number, width and rise within the limits
 pub record Points (ks vs : List ℤ) : Type 0 where
@@ -49,6 +50,20 @@ accepted-points e g =
       count = counted (λ f. clear e after-1 0 (too-few-or-many f));
       widths = λ i l. stable (between-or-not _ _ _) (λ f. clear e after-2 i (width-outside l f));
       rises = λ i l. stable (between-or-not _ _ _) (λ f. clear e (rest e after-2) i (rise-outside l f));
+    }
+
+-- a table that passes the table check
+pub record Accepted (t : Table) : Type 0 where
+  pub limits : Points (t .knots) (t .values)
+  pub slopes : length (t .slopes) ≡ length (t .knots)
+  pub pieces : (i : ℕ) → i + 1 < length (t .knots) → MonotoneAt t i
+
+pub accepted-table : {t : Table} {n p : ℕ} → n ≡ 0 → Given (Holds t) checkOrder n p → Accepted t
+accepted-table e g =
+    record {
+      limits = accepted-points refl (front buildOrder (5 ∷ []) e g);
+      slopes = same-lengths (clear e g) .slopes;
+      pieces = λ i l. monotone-stable (λ f. clear e (behind buildOrder e g) i (not-monotone l f));
     }
 
 -- ---- and the other way round

@@ -4,4 +4,5 @@ mod refusals;
 mod search;
 
 pub use pieces::step;
+pub use refusals::check;
 pub use refusals::points;

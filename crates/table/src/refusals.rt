@@ -1,7 +1,7 @@
-// Why a table is refused before its slopes are looked at: 1, 2, 3, 4, in this order.
+// Why a table is refused: 1, 2, 3, 4 for its points, and 5 for its slopes, in this order.
 ghost use mathlib.Core.List.{[], _∷_};
 ghost use Rattle.rules.specs.Refusals.{Given};
-ghost use Rattle.table.specs.Table.{table, Holds, buildOrder};
+ghost use Rattle.table.specs.Table.{table, Holds, buildOrder, checkOrder};
 use crate::search;
 use crate::search::Cause;
 use rules::Refusal;
@@ -42,9 +42,20 @@ pub fn points(knots: &[i32], values: &[i32], slopes: &[i32]) -> Refusal
     if counted.number != rules::DONE {
         return counted;
     }
-    let width = search::first(Cause::Width, knots, values);
+    let width = search::first(Cause::Width, knots, values, slopes);
     if width.number != rules::DONE {
         return width;
     }
-    search::first(Cause::Rise, knots, values)
+    search::first(Cause::Rise, knots, values, slopes)
+}
+
+// 1, 2, 3, 4 and 5: the table check, of any proposed slopes.
+pub fn check(knots: &[i32], values: &[i32], slopes: &[i32]) -> Refusal
+    ensures { λ r. ⌜ Given (Holds (table (now (knots .entry)) (now (values .entry)) (now (slopes .entry)))) checkOrder (r .number) (r .place) ⌝ }
+{
+    let asked = points(knots, values, slopes);
+    if asked.number != rules::DONE {
+        return asked;
+    }
+    search::first(Cause::Bend, knots, values, slopes)
 }

@@ -3,7 +3,8 @@ ghost use mathlib.Core.Path.{_≡_};
 ghost use Prim.Native.Nat.{_+_, _<_};
 ghost use lib.ListN.{length};
 ghost use Rattle.integers.specs.Promise.{Decided};
-ghost use Rattle.table.specs.Search.{numberOf, Sound, Found};
+ghost use Rattle.table.specs.Table.{table, SameLengths};
+ghost use Rattle.table.specs.Search.{numberOf, Askable, Sound, Found};
 use crate::pieces;
 use rules::Refusal;
 
@@ -11,6 +12,7 @@ use rules::Refusal;
 pub(crate) enum Cause {
     Width,
     Rise,
+    Bend,
 }
 
 fn number(cause: Cause) -> u32
@@ -19,24 +21,33 @@ fn number(cause: Cause) -> u32
     match cause {
         Cause::Width => rules::WIDTH,
         Cause::Rise => rules::RISE,
+        Cause::Bend => rules::BEND,
     }
 }
 
-fn is_sound(cause: Cause, knots: &[i32], values: &[i32], i: usize) -> bool
+fn is_sound(cause: Cause, knots: &[i32], values: &[i32], slopes: &[i32], i: usize) -> bool
+    requires { ⌜ SameLengths (table (now knots) (now values) (now slopes)) ⌝ }
+    requires { ⌜ Askable cause (now knots) (now values) ⌝ }
     requires { ⌜ i + 1 < length (now knots) ⌝ }
-    requires { ⌜ length (now values) ≡ length (now knots) ⌝ }
-    ensures { λ r. ⌜ Decided (Sound cause (now (knots .entry)) (now (values .entry)) i) r ⌝ }
+    ensures { λ r. ⌜ Decided (Sound cause (table (now (knots .entry)) (now (values .entry)) (now (slopes .entry))) i) r ⌝ }
 {
     match cause {
         Cause::Width => rules::width_within(pieces::step(knots, i)),
         Cause::Rise => rules::rise_within(pieces::step(values, i)),
+        Cause::Bend => piece::is_monotone(
+            pieces::step(knots, i),
+            pieces::step(values, i),
+            slopes[i],
+            slopes[i + 1],
+        ),
     }
 }
 
-// The refusal by this cause, at the first piece at which it holds, or none. The slopes are not asked, whatever they are.
-pub(crate) fn first(cause: Cause, knots: &[i32], values: &[i32]) -> Refusal
-    requires { ⌜ length (now values) ≡ length (now knots) ⌝ }
-    ensures { λ r. ⌜ Found cause (now (knots .entry)) (now (values .entry)) (r .number) (r .place) ⌝ }
+// The refusal by this cause, at the first piece at which it holds, or none.
+pub(crate) fn first(cause: Cause, knots: &[i32], values: &[i32], slopes: &[i32]) -> Refusal
+    requires { ⌜ SameLengths (table (now knots) (now values) (now slopes)) ⌝ }
+    requires { ⌜ Askable cause (now knots) (now values) ⌝ }
+    ensures { λ r. ⌜ Found cause (table (now (knots .entry)) (now (values .entry)) (now (slopes .entry))) (r .number) (r .place) ⌝ }
 {
     let mut i = 0;
     let at = loop {
@@ -46,7 +57,7 @@ pub(crate) fn first(cause: Cause, knots: &[i32], values: &[i32]) -> Refusal
                 place: 0,
             };
         }
-        if !is_sound(cause, knots, values, i) {
+        if !is_sound(cause, knots, values, slopes, i) {
             break i;
         }
         i += 1;

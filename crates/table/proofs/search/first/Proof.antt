@@ -6,15 +6,16 @@ use borrow.Author.Needs.{needs}
 use borrow.Author.Count.{below-none, below-more}
 use borrow.Author.Tests.{not-true, not-false}
 use Rattle.integers.specs.Decided.{told, denied}
+use Rattle.table.specs.Table.{table}
 use Rattle.table.specs.Search.{Sound, none-found, found-here}
 use Rattle.table.proofs.search.first.Statement.{statement}
 use Rattle.table.proofs.search.first.Tie as tie
 
 abbrev Inv-loop : tie.InvT-loop
-Inv-loop cause knots values i₀ i = (i ≤ length knots) × ((j : ℕ) → j < i → Sound cause knots values j)
+Inv-loop cause knots values slopes i₀ i = (i ≤ length knots) × ((j : ℕ) → j < i → Sound cause (table knots values slopes) j)
 
 abbrev μ-loop : tie.MeasureT-loop
-μ-loop cause knots values i₀ i = length knots - i
+μ-loop cause knots values slopes i₀ i = length knots - i
 
 loop-holds : tie.Need-loop-holds Inv-loop μ-loop
 loop-holds c = (omega arith, below-none _)
@@ -45,7 +46,7 @@ number-requires c κs = search needs
 
 returns-2 : tie.Need-returns-2 Inv-loop μ-loop
 returns-2 c =
-    found-here _ (c .before .before .before .before .loop .inv .1) (c .number .ensures)
+    found-here (c .before .before .before .before .before .args .cause) (c .before .before .before .before .loop .inv .1) (c .number .ensures)
     (omega (arith, c .before .before .before .if1 .left)) (denied (c .before .before .is-sound .ensures) (not-true _ (c .before .if2 .taken)))
 
 pub first-spec : {M : Type 1} → statement M

@@ -1,0 +1,12 @@
+-- "The value at a position" of the exact rules, for one piece, as it is written there. Whoever believes a promise about values believes this file.
+use lib.IntN.{ℤ, _*ℤ_}
+use Rattle.integers.specs.Promise.{floorOf}
+use Rattle.cubic.specs.Piece.{riseAt}
+
+-- "rounded down, also where the quotient is negative"
+abbrev pub rounded : (n d : ℤ) → ℤ
+rounded n d = floorOf n d
+
+-- "(a·t·h² + (3Z − 2a − b)·t²·h + (a + b − 2Z)·t³) / (256·h³)": what "the left value plus" is said of. Here Z = U·z, a = m·h and b = n·h.
+abbrev pub risen : (U h z m n t : ℤ) → ℤ
+risen U h z m n t = rounded (riseAt (U *ℤ z) (m *ℤ h) (n *ℤ h) t h) (U *ℤ (h *ℤ h *ℤ h))

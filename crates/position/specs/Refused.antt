@@ -1,0 +1,44 @@
+-- When a position is refused: the causes that a table has by itself are asked as in the table check.
+use mathlib.Core.Path.{_≡_, refl}
+use mathlib.Core.List.{List, [], _∷_}
+use Prim.Native.Nat.{ℕ}
+use native.Mathlib.Omega.{arith}
+use lib.IntN.{ℤ}
+use Rattle.integers.specs.Decided.{stable, between-or-not}
+use Rattle.rules.specs.Refusals.{Given, done, refused, passed}
+use Rattle.rules.specs.Order.{Same, none, also, other-way, carried, front, behind, clear}
+use Rattle.table.specs.Table.{Table, Holds, checkOrder}
+use Rattle.table.specs.Accepted.{Accepted, accepted-table}
+use Rattle.position.specs.Position.{WithinKnots, HoldsAt, of-table, position-outside, evaluationOrder}
+
+module _ {t : Table} {x : ℤ} where
+  table-alone : (c p : ℕ) → (c ≡ 6 → ⊥) → HoldsAt t x c p → Holds t c p
+  table-alone c p f (of-table h) = h
+  table-alone c p f (position-outside g) = absurd (f refl)
+
+  same-causes : Same (Holds t) (HoldsAt t x) checkOrder
+  same-causes =
+      one 1 (λ (e : 1 ≡ 6). omega arith) (one 2 (λ (e : 2 ≡ 6). omega arith) (one 3 (λ (e : 3 ≡ 6). omega arith) (one 4 (λ (e : 4 ≡ 6). omega arith) (one 5 (λ (e : 5 ≡ 6). omega arith) none))))
+    where
+      one : (c : ℕ) {order : List ℕ} → (c ≡ 6 → ⊥) → Same (Holds t) (HoldsAt t x) order → Same (Holds t) (HoldsAt t x) (c ∷ order)
+      one c f = also (λ _. of-table) (λ p. table-alone c p f)
+
+  pub as-checked : {n p : ℕ} → Given (Holds t) checkOrder n p → Given (HoldsAt t x) checkOrder n p
+  as-checked = carried same-causes
+
+  pub refused-outside : (WithinKnots (t .knots) x → ⊥) → Given (HoldsAt t x) (6 ∷ []) 6 0
+  refused-outside f = refused (position-outside f) (λ _ l _. absurd (omega (arith, l)))
+
+  pub taken-inside : WithinKnots (t .knots) x → Given (HoldsAt t x) (6 ∷ []) 0 0
+  taken-inside b = passed (λ p h. no p h) done
+    where
+      no : (p : ℕ) → HoldsAt t x 6 p → ⊥
+      no p (position-outside f) = f b
+
+  -- what is known where nothing is refused
+  module _ {n p : ℕ} (e : n ≡ 0) (g : Given (HoldsAt t x) evaluationOrder n p) where
+    pub accepted-at : Accepted t
+    accepted-at = accepted-table refl (carried (other-way same-causes) (front checkOrder (6 ∷ []) e g))
+
+    pub inside-at : WithinKnots (t .knots) x
+    inside-at = stable (between-or-not _ _ _) (λ f. clear e (behind checkOrder e g) 0 (position-outside f))
