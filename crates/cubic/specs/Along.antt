@@ -1,12 +1,14 @@
 -- Two numbers in order along a rise: upwards where it rises, downwards where it falls, and the same where there is none.
-use mathlib.Core.Path.{_≡_, ap, subst}
+use mathlib.Core.Path.{_≡_, ap}
 use mathlib.Core.List.{[], _∷_}
 use native.Mathlib.Omega.{arith}
-use lib.IntN.{ℤ, pos, _+ℤ_, _-ℤ_}
+use Prim.Native.Nat.{ℕ}
+use lib.IntN.{ℤ, pos, negℤ, _+ℤ_, _-ℤ_}
 use lib.Signed.{_≤ℤ_, _<ℤ_}
 use Rattle.integers.specs.Promise.{Between}
 use Rattle.integers.specs.Linear.{lin, says}
 use Rattle.integers.specs.Signs.{by-sign}
+use Rattle.integers.specs.Within.{Within, within, within-low, within-high}
 
 pub record Along (z x y : ℤ) : Type 0 where
   pub rising : pos 0 <ℤ z → x ≤ℤ y
@@ -38,3 +40,19 @@ amid {l} {r} {w} a b =
 
     level : (l r w : ℤ) → r -ℤ l ≡ pos 0 → pos 0 ≡ w → (l ≤ℤ (l +ℤ w)) × ((l +ℤ w) ≤ℤ r)
     level l r w = lin (l ∷ r ∷ w ∷ []) (search says depth 30 fits 9000) (omega arith)
+
+-- and a part of a rise is not larger than the whole
+pub part-within : {M : ℕ} {z w : ℤ} → Within M z → Along z (pos 0) w → Along z w z → Within M w
+part-within {M} {z} {w} h a b =
+    by-sign z (λ p. let s = up z w (a .rising p) (b .rising p) (within-high h) in within M w (s .0) (s .1))
+    (λ p. let s = down z w (a .falling p) (b .falling p) (within-low h) in within M w (s .0) (s .1))
+    (λ e. let s = level w (a .level e) in within M w (s .0) (s .1))
+  where
+    up : (z w : ℤ) → pos 0 ≤ℤ w → w ≤ℤ z → z ≤ℤ pos M → (negℤ (pos M) ≤ℤ w) × (w ≤ℤ pos M)
+    up z w = lin (z ∷ w ∷ []) (search says depth 30 fits 9000) (omega arith)
+
+    down : (z w : ℤ) → w ≤ℤ pos 0 → z ≤ℤ w → negℤ (pos M) ≤ℤ z → (negℤ (pos M) ≤ℤ w) × (w ≤ℤ pos M)
+    down z w = lin (z ∷ w ∷ []) (search says depth 30 fits 9000) (omega arith)
+
+    level : (w : ℤ) → pos 0 ≡ w → (negℤ (pos M) ≤ℤ w) × (w ≤ℤ pos M)
+    level w = lin (w ∷ []) (search says depth 30 fits 9000) (omega arith)

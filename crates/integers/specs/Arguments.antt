@@ -1,4 +1,4 @@
--- A relation of a call's arguments, as the code has them and plainly: of four, and so of two or three.
+-- A relation of a call's arguments, as the code has them and plainly: of four, and so of one, two or three.
 use mathlib.Core.Path.{_≡_, sym, subst₂}
 use mathlib.Core.Bool.{Bool, _&&_}
 use mathlib.Core.List.{List}
@@ -40,9 +40,16 @@ as-coded₄ Γ R (four c d e f) t h =
     let b = and-yes (sound e) (sound f) (s .1) in
     same₄ R (sym (plain-is c (a .0))) (sym (plain-is d (a .1))) (sym (plain-is e (b .0))) (sym (plain-is f (b .1))) h
 
--- ---- of two, and of three
+-- ---- of one, of two, and of three
+
+module _ (Γ : List Known) (R : ℤ → Type 0) {x : ℤ} where
+  pub as-coded₁ : (t : Four Γ x (pos 0) (pos 0) (pos 0)) → T (sound-all t) → Plainly (λ x _ _ _. R x) t → R x
+  as-coded₁ = as-coded₄ Γ (λ x _ _ _. R x)
 
 module _ (Γ : List Known) (R : ℤ → ℤ → Type 0) {x y : ℤ} where
+  pub plainly₂ : R x y → (t : Four Γ x y (pos 0) (pos 0)) → T (sound-all t) → Plainly (λ x y _ _. R x y) t
+  plainly₂ = plainly₄ Γ (λ x y _ _. R x y)
+
   pub as-coded₂ : (t : Four Γ x y (pos 0) (pos 0)) → T (sound-all t) → Plainly (λ x y _ _. R x y) t → R x y
   as-coded₂ = as-coded₄ Γ (λ x y _ _. R x y)
 

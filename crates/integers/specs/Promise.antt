@@ -1,4 +1,5 @@
 -- The definitions that the contracts of this crate cite. Whoever believes its promises believes this file.
+use mathlib.Core.Path.{_≡_}
 use mathlib.Core.Bool.{Bool, true, false}
 use Prim.Native.Nat.{zero, suc, _/_}
 use lib.IntN.{ℤ, pos, negsuc, negℤ, natAbs, _+ℤ_, _*ℤ_}
@@ -25,6 +26,10 @@ floorOf n (pos zero) = pos 0
 floorOf (pos n) (pos (suc d)) = pos (n / suc d)
 floorOf (negsuc n) (pos (suc d)) = negsuc (n / suc d)
 floorOf n (negsuc d) = pos 0
+
+-- q is that number, as a relation, which shows n and d to a caller's proof.
+pub record Quotient (n d q : ℤ) : Type 0 where
+  pub is : q ≡ floorOf n d
 
 abbrev pub magnitude : ℤ → ℤ
 magnitude x = pos (natAbs x)

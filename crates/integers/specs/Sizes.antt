@@ -13,6 +13,9 @@ use lib.Signed.{mag, quotZ, natAbs-le}
 use mir.Syntax.{Width}
 use mir.Val.{SFits, toZ, ofZ, hbits}
 use mir.Facts.{toZ-ofZ, and-yes}
+use Rattle.integers.specs.Promise.{Between}
+use Rattle.integers.specs.Parts.{≤-to}
+use Rattle.integers.specs.Order.{≤-pos}
 use Rattle.integers.specs.Division.{natAbs-quot}
 use Rattle.integers.specs.Within.{Within, natAbs-plus, natAbs-minus, natAbs-product}
 
@@ -151,3 +154,14 @@ sized Γ {M} c t =
 -- a call's result, behind its bits, is what the callee says of it
 pub returned : (w : Width) {r x : ℤ} → mag r < 2 ^ hbits w → r ≡ x → toZ w (ofZ w r) ≡ x
 returned w l e = toZ-ofZ (record { sfits = l }) ∙ e
+
+-- what lies between two numbers of a width has it too
+pub between-fits : (w : Width) {l x h : ℤ} → Between l x h → SFits w l → SFits w h → SFits w x
+between-fits w {x = pos n} {h = pos m} b f g = record { sfits = lt-of-le-of-lt (≤-pos (b .high)) (g .sfits) }
+between-fits w {x = pos n} {h = negsuc m} b f g = absurd (b .high .le)
+between-fits w {l = pos k} {x = negsuc n} b f g = absurd (b .low .le)
+between-fits w {l = negsuc k} {x = negsuc n} b f g =
+    record { sfits = lt-of-le-of-lt (smaller (≤-to (negsuc k) (negsuc n) (b .low))) (f .sfits) }
+  where
+    smaller : {k n : ℕ} → 0 + suc n ≤ 0 + suc k → n ≤ k
+    smaller h = omega arith

@@ -47,6 +47,10 @@ pub within-high : {M : ℕ} {x : ℤ} → Within M x → x ≤ℤ pos M
 within-high {M} {x = pos n} h = ≤-from (pos n) (pos M) (omega (arith, h .size))
 within-high {M} {x = negsuc n} h = ≤-from (negsuc n) (pos M) (omega arith)
 
+pub within-low : {M : ℕ} {x : ℤ} → Within M x → negℤ (pos M) ≤ℤ x
+within-low {M} {x = pos n} h = ≤-from (negℤ (pos M)) (pos n) (omega (arith, diff-neg (diff-self (pos M)) .same))
+within-low {M} {x = negsuc n} h = ≤-from (negℤ (pos M)) (negsuc n) (omega (arith, h .size, diff-neg (diff-self (pos M)) .same))
+
 pub within-minus : {M : ℕ} (x : ℤ) → Within M x → Within M (negℤ x)
 within-minus {M} x h = record { size = subst (λ (n : ℕ). n ≤ M) (sym (natAbs-minus x)) (h .size) }
 

@@ -1,7 +1,7 @@
 // Signed arithmetic that is what the integers say: no result here is computed from a wrapped number.
 ghost use mathlib.Core.Path.{_≡_};
 ghost use lib.IntN.{_-ℤ_};
-ghost use Rattle.integers.specs.Promise.{Decided, floorOf, Between};
+ghost use Rattle.integers.specs.Promise.{Decided, Quotient, Between};
 
 // The difference of any two 32-bit numbers, right minus left. It is taken in 64 bits, where it always fits.
 pub fn difference(left: i32, right: i32) -> i64
@@ -23,7 +23,7 @@ pub fn between(low: i64, x: i64, high: i64) -> bool
 // n/d rounded down where d is positive, and 0 where it is not. The machine rounds toward zero, which is one too much where a remainder is left
 // below zero.
 pub fn floor_div(n: i64, d: i64) -> i64
-    ensures { λ r. ⌜ r ≡ floorOf n d ⌝ }
+    ensures { λ r. ⌜ Quotient n d r ⌝ }
 {
     if d < 1 {
         return 0;

@@ -91,6 +91,10 @@ module _ {A : Type 0} {Right : A → Type 0} {none : A} where
   right-answer {n = zero} e r = answered r
   right-answer {n = suc n} e r = absurd (omega (arith, e))
 
+  pub answer-right : {n : ℕ} {a : A} → n ≡ 0 → Answered Right none n a → Right a
+  answer-right e nothing = absurd (omega (arith, e))
+  answer-right e (answered r) = r
+
   -- one only, where one only is right
   pub one-answered : {n : ℕ} {a b : A} → (Right a → Right b → a ≡ b) → Answered Right none n a → Answered Right none n b → a ≡ b
   one-answered f nothing nothing = refl

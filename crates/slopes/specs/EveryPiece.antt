@@ -12,7 +12,7 @@ use Rattle.cubic.specs.Piece.{unit, Monotone}
 use Rattle.cubic.specs.Fair.{fair-monotone}
 use Rattle.table.specs.Table.{table, step, MonotoneAt, Holds, not-monotone, checkOrder}
 use Rattle.table.specs.Accepted.{Points, accepted-points, points-accepted}
-use Rattle.slopes.specs.Sizes.{0<-width}
+use Rattle.rules.specs.Known.{0<-width}
 use Rattle.slopes.specs.Slopes.{builtSlope, builtSlopes, Built}
 use Rattle.slopes.specs.Put.{tab-length, tab-entry}
 use Rattle.slopes.specs.FairSlopes.{left-fair, right-fair}

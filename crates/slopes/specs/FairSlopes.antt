@@ -12,7 +12,7 @@ use Rattle.cubic.specs.Piece.{unit}
 use Rattle.cubic.specs.Fair.{Fair, end-fair, inner-fair, inner-mirrored}
 use Rattle.table.specs.Table.{step}
 use Rattle.table.specs.Accepted.{Points}
-use Rattle.slopes.specs.Sizes.{0<-width}
+use Rattle.rules.specs.Known.{0<-width}
 use Rattle.slopes.specs.Slopes.{endAt, innerAt, builtSlope}
 use Rattle.slopes.specs.Cases.{first-slope, last-slope, inner-slope}
 

@@ -13,6 +13,7 @@ use Rattle.cubic.specs.Piece.{unit}
 use Rattle.cubic.specs.Slopes.{mean}
 use Rattle.cubic.specs.Fair.{0≤-mean, mean-high}
 use Rattle.rules.specs.Limits.{WidthWithin, RiseWithin}
+use Rattle.rules.specs.Known.{0<-width}
 
 pub record Within (h z : ℤ) : Type 0 where
   pub width : WidthWithin h
@@ -25,13 +26,6 @@ pub record Up (h z : ℤ) : Type 0 where
 -- m is the mean, as a relation, which shows the pieces to a caller's proof
 pub record Mean (h₁ z₁ h₂ z₂ m : ℤ) : Type 0 where
   pub is : m ≡ mean unit h₁ z₁ h₂ z₂
-
--- a width is above 0
-pub 0<-width : {h : ℤ} → WidthWithin h → pos 0 <ℤ h
-0<-width {h} w = one (w .low)
-  where
-    one : {h : ℤ} → pos 1 ≤ℤ h → pos 0 <ℤ h
-    one {h} = lin (h ∷ []) (search says depth 30 fits 9000) (omega arith)
 
 -- "at most three times as steep as the piece" is at most three units times the largest rise
 pub mean-within : {h₁ z₁ h₂ z₂ : ℤ} → Up h₁ z₁ → Up h₂ z₂ → size.Within 805306368 (mean unit h₁ z₁ h₂ z₂)

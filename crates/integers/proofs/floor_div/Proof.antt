@@ -24,7 +24,7 @@ coded : (s : tie.Start) (R : ℤ → ℤ → Type 0) → R (s .args .n) (s .args
 coded s R h = subst₂ R (sym (toZ-ofZ (s .fits .n))) (sym (toZ-ofZ (s .fits .d))) h
 
 returns : tie.Need-returns
-returns c = no-floor (c .before .args .n) (passed (given (c .before)) (c .if1 .taken) (search tests depth 30 fits 9000) tt)
+returns c = record { is = no-floor (c .before .args .n) (passed (given (c .before)) (c .if1 .taken) (search tests depth 30 fits 9000) tt) }
 
 div-q : tie.Need-div-q
 div-q c =
@@ -63,15 +63,21 @@ sub-result c =
 returns-2 : tie.Need-returns-2
 returns-2 c =
     let s = c .before .before in
-    ap (λ (q : ℤ). toZ w64 (ofZ w64 q)) (ap (λ (q : ℤ). q -ℤ pos 1) (quotient (c .before)) ∙ one-less c)
-    ∙ toZ-ofZ (floor-fits w64 (s .args .d) (s .fits .n))
+    record {
+      is =
+          ap (λ (q : ℤ). toZ w64 (ofZ w64 q)) (ap (λ (q : ℤ). q -ℤ pos 1) (quotient (c .before)) ∙ one-less c)
+          ∙ toZ-ofZ (floor-fits w64 (s .args .d) (s .fits .n));
+    }
 
 returns-3 : tie.Need-returns-3
 returns-3 c =
     let s = c .before .before in
-    quotient (c .before)
-    ∙ quot-floor (s .args .n) (positive (c .before))
-    (plain s (λ (r : ℤ). pos 0 ≤ℤ r) (failed (remainder s) (c .if2 .left) (search tests depth 30 fits 9000) tt))
+    record {
+      is =
+          quotient (c .before)
+          ∙ quot-floor (s .args .n) (positive (c .before))
+          (plain s (λ (r : ℤ). pos 0 ≤ℤ r) (failed (remainder s) (c .if2 .left) (search tests depth 30 fits 9000) tt));
+    }
 
 pub floor-div-spec : {M : Type 1} → statement M
 floor-div-spec = tie.close (tie.spec returns div-q rem-if2 sub-result returns-2 returns-3)

@@ -12,8 +12,8 @@ use Rattle.integers.specs.Sizes.{Known, known, listed, first, fits, plain-is, c
 use Rattle.integers.specs.Tests.{zeros, not-zero}
 use Rattle.cubic.specs.Piece.{unit}
 use Rattle.cubic.specs.Slopes.{meanAbove, meanBelow, mean}
-use Rattle.rules.specs.Known.{known-width, known-rise}
-use Rattle.slopes.specs.Sizes.{0<-width, mean-within}
+use Rattle.rules.specs.Known.{known-width, known-rise, 0<-width}
+use Rattle.slopes.specs.Sizes.{mean-within}
 use Rattle.slopes.proofs.rule.mean.Statement.{statement}
 use Rattle.slopes.proofs.rule.mean.Tie as tie
 

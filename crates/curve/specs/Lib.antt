@@ -1,0 +1,3 @@
+pub mod Curve
+pub mod Sizes
+pub mod OnPiece
