@@ -1,12 +1,12 @@
 -- On a monotone piece the exact cubic is in order along the rise at any two fractions of the width, and so are the values answered.
-use mathlib.Core.Path.{_≡_, refl, sym, _∙_, ap, subst, subst₂}
+use mathlib.Core.Path.{_≡_, sym, _∙_, ap, subst, subst₂}
 use mathlib.Core.List.{[], _∷_}
 use native.Mathlib.Omega.{arith}
 use lib.IntN.{ℤ, pos, negℤ, _*ℤ_}
 use lib.Signed.{_≤ℤ_, _<ℤ_, ≤ℤ-refl}
 use Rattle.integers.specs.Ring.{ring, quote}
 use Rattle.integers.specs.Linear.{lin, says}
-use Rattle.integers.specs.Order.{0<→1≤, <ℤ→≤ℤ, positives}
+use Rattle.integers.specs.Order.{0<→1≤, positives}
 use Rattle.integers.specs.Rounding.{Rounding, rounding-down}
 use Rattle.cubic.specs.Piece.{riseAt, Monotone}
 use Rattle.cubic.specs.Value.{rounded, risen}

@@ -1,3 +1,4 @@
 pub mod Position
 pub mod Pieces
 pub mod Refused
+pub mod Determined

@@ -1,14 +1,12 @@
 -- Laws of the piece that a position belongs to.
-use mathlib.Core.Path.{_≡_, refl, sym, ap, subst}
+use mathlib.Core.Path.{_≡_, sym, subst}
 use mathlib.Core.List.{List, [], _∷_}
 use mathlib.Core.Logic.{⊎-elim}
 use Prim.Native.Nat.{ℕ, zero, suc, _+_, _-_, _≤_, _<_}
-use native.Mathlib.Nat.{eq-or-lt-of-le}
 use native.Mathlib.Omega.{arith}
 use lib.IntN.{ℤ, pos, _-ℤ_}
 use lib.Signed.{_≤ℤ_, _<ℤ_, clashℤ, ≤ℤ-refl}
 use lib.ListN.{length}
-use Rattle.integers.specs.Promise.{Between}
 use Rattle.integers.specs.Linear.{lin, says}
 use Rattle.integers.specs.Order.{≤ℤ-or-<ℤ, ≤ℤ-antisym, ≤ℤ-trans, <ℤ→≤ℤ}
 use Rattle.table.specs.Table.{entry}
@@ -65,3 +63,7 @@ module _ {ks vs : List ℤ} (p : Points ks vs) where
     where
       same : {i j : ℕ} → (i < j → ⊥) → (j < i → ⊥) → i ≡ j
       same f g = omega arith
+
+  -- "a position at an inner knot belongs to the piece that starts there", and so does one at the first
+  pub knot-starts-its-piece : (k : ℕ) → k + 1 < length ks → Belongs ks (entry ks k) k
+  knot-starts-its-piece k l = inside l (≤ℤ-refl (entry ks k)) (next k l)

@@ -96,6 +96,8 @@ module _ {A : Type 0} {Right : A → Type 0} {none : A} where
   answer-right e (answered r) = r
 
   -- one only, where one only is right
-  pub one-answered : {n : ℕ} {a b : A} → (Right a → Right b → a ≡ b) → Answered Right none n a → Answered Right none n b → a ≡ b
-  one-answered f nothing nothing = refl
-  one-answered f (answered r) (answered s) = f r s
+  pub one-answered : {m n : ℕ} {a b : A} → m ≡ n → (n ≡ 0 → Right a → Right b → a ≡ b) → Answered Right none m a → Answered Right none n b → a ≡ b
+  one-answered e f nothing nothing = refl
+  one-answered e f nothing (answered s) = absurd (omega (arith, e))
+  one-answered e f (answered r) nothing = absurd (omega (arith, e))
+  one-answered e f (answered r) (answered s) = f refl r s

@@ -1,9 +1,8 @@
 -- `curve::evaluate` meets its contract: the value is worked out where nothing refuses the position.
-use mathlib.Core.Path.{_≡_, sym, _∙_, ap, subst}
+use mathlib.Core.Path.{sym, _∙_, ap, subst}
 use borrow.Author.Needs.{needs}
 use lib.IntN.{ℤ}
 use mir.Syntax.{w32}
-use mir.Val.{toZ, ofZ}
 use mir.Facts.{toZ-ofZ}
 use Rattle.integers.specs.Sizes.{returned}
 use Rattle.rules.specs.Order.{refused-answer, right-answer, answer-right}

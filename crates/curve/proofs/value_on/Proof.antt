@@ -17,7 +17,6 @@ use Rattle.cubic.specs.Piece.{unit, Monotone}
 use Rattle.cubic.specs.Value.{risen}
 use Rattle.rules.specs.Limits.{WidthWithin, RiseWithin}
 use Rattle.table.specs.Table.{Table, table, entry, step}
-use Rattle.table.specs.Accepted.{Accepted}
 use Rattle.position.specs.Pieces.{within-list}
 use Rattle.curve.specs.Curve.{risenOn, valueOn}
 use Rattle.curve.specs.OnPiece.{inside-piece, risen-within, value-fits}

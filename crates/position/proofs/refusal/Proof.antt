@@ -1,5 +1,4 @@
 -- `position::refusal` meets its contract: 6 is asked where the whole table has passed.
-use mathlib.Core.Path.{sym, subst}
 use mathlib.Core.List.{List, [], _∷_}
 use Prim.Native.Nat.{_-_, _≤_}
 use native.Mathlib.Omega.{arith}

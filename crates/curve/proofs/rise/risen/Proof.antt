@@ -5,9 +5,7 @@ use borrow.Author.Needs.{needs}
 use lib.IntN.{ℤ, pos, _*ℤ_}
 use lib.Signed.{ltZ-yes}
 use mir.Syntax.{w32, w64}
-use mir.Val.{toZ, ofZ}
 use Rattle.integers.specs.Promise.{Between, Quotient, floorOf}
-use Rattle.integers.specs.Within.{Within}
 use Rattle.integers.specs.Sizes.{Known, held, fits, sized, plain-is, code, returned}
 use Rattle.integers.specs.Arguments.{arguments, plainly₂, as-coded₁, as-coded₂, as-coded₃}
 use Rattle.cubic.specs.Piece.{unit, riseAt}

@@ -2,10 +2,9 @@
 use mathlib.Core.Path.{_≡_, sym, subst}
 use mathlib.Core.Bool.{Bool}
 use mathlib.Core.List.{List}
-use Prim.Native.Nat.{ℕ, _+_}
+use Prim.Native.Nat.{ℕ}
 use lib.IntN.{ℤ}
-use lib.ListN.{length}
-use mir.Syntax.{w32, w64}
+use mir.Syntax.{w64}
 use mir.Val.{toZ, ofZ}
 use mir.Facts.{toZ-ofZ}
 use borrow.Author.Needs.{needs}
@@ -17,7 +16,6 @@ use Rattle.cubic.specs.Piece.{unit, Monotone}
 use Rattle.rules.specs.Limits.{WidthWithin, RiseWithin}
 use Rattle.table.specs.declared.search.Cause.{Cause}
 use Rattle.table.specs.Table.{Table, table, step}
-use Rattle.table.specs.Accepted.{Points}
 use Rattle.table.specs.Search.{Askable, Sound}
 use Rattle.table.proofs.search.is_sound.Statement.{statement}
 use Rattle.table.proofs.search.is_sound.Tie as tie
