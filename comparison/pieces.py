@@ -19,21 +19,25 @@ def cross(width, rise, left, right):
         yield from both_signs(width, rise, left + left_step, right + right_step)
 
 
+# The pieces of document 01.
+FIGURES = (
+    (1, 1, 256, 256),
+    (1, 1, 768, 768),
+    (1, 1, 768, 769),
+    (1, 1, 1024, 256),
+    (1, 1, 1025, 256),
+    (1, 1, 1024, 255),
+    (1, 1, 768, 0),
+    (1, 1, 769, 0),
+    (1, 0, 0, 0),
+    (1, 0, 1, -1),
+    (1, -1, -768, -768),
+    (2, 1, 384, 384),
+)
+
+
 def figures():
-    for numbers in (
-        (1, 1, 256, 256),
-        (1, 1, 768, 768),
-        (1, 1, 768, 769),
-        (1, 1, 1024, 256),
-        (1, 1, 1025, 256),
-        (1, 1, 1024, 255),
-        (1, 1, 768, 0),
-        (1, 1, 769, 0),
-        (1, 0, 0, 0),
-        (1, 0, 1, -1),
-        (1, -1, -768, -768),
-        (2, 1, 384, 384),
-    ):
+    for numbers in FIGURES:
         yield piece(*numbers)
     for width in (0, 1, 1024, 1025):
         yield piece(width, 1, 0, 0)

@@ -4,10 +4,7 @@ A line that has a fault is followed by a look at the list, which must be as it w
 """
 from dice import I32_MAX, I32_MIN, I64_MAX
 from reference import LONGEST_LINE, LONGEST_ROW
-from tables import BUILD_AND_SHOW, BUILD_AND_SHOW_ALL, digits, row
-
-NAMES = (b"knots", b"values", b"slopes")
-SHOW_ALL = tuple(b"show " + name for name in NAMES)
+from tables import BUILD_AND_SHOW, BUILD_AND_SHOW_ALL, NAMES, SHOW_ALL, digits, row
 
 
 def table_to_build():

@@ -7,8 +7,10 @@ from itertools import accumulate, combinations, cycle, islice, product
 from dice import Dice, I32_MAX, I32_MIN
 from reference import LARGEST_RISE, UNIT, WIDEST
 
+NAMES = (b"knots", b"values", b"slopes")
+SHOW_ALL = tuple(b"show " + name for name in NAMES)
 BUILD_AND_SHOW = (b"build", b"show slopes")
-BUILD_AND_SHOW_ALL = (b"build", b"show knots", b"show values", b"show slopes")
+BUILD_AND_SHOW_ALL = (b"build", *SHOW_ALL)
 
 
 def row(name, numbers):
@@ -290,12 +292,15 @@ def greatest_slopes():
             yield from points(sums(widths), sums([sign, sign * LARGEST_RISE]))
 
 
-def inner_quotient(h1, z1, h2, z2):
-    """Document 01's quotient at an inner point, rounded down, and its remainder in thousandths of the divisor."""
-    over = 3 * UNIT * (h1 + h2) * z1 * z2
-    under = h1 * z2 * (h1 + 2 * h2) + h2 * z1 * (2 * h1 + h2)
+def rounded(over, under):
+    """A quotient rounded down, and where it was: whole, just above a whole number, just below, or None of these."""
     whole, rest = divmod(over, under)
-    return whole, rest == 0, 1000 * rest // under
+    return whole, "whole" if rest == 0 else {0: "above", 999: "below"}.get(1000 * rest // under)
+
+
+def inner_quotient(h1, z1, h2, z2):
+    """Document 01's quotient at an inner point, as its two sides."""
+    return 3 * UNIT * (h1 + h2) * z1 * z2, h1 * z2 * (h1 + 2 * h2) + h2 * z1 * (2 * h1 + h2)
 
 
 def inner_rounding():
@@ -305,10 +310,9 @@ def inner_rounding():
     while any(wanted.values()):
         h1, h2 = dice.up_to_any_size(WIDEST), dice.up_to_any_size(WIDEST)
         z1, z2 = dice.up_to_any_size(LARGEST_RISE), dice.up_to_any_size(LARGEST_RISE)
-        whole, is_exact, thousandths = inner_quotient(h1, z1, h2, z2)
+        whole, where = rounded(*inner_quotient(h1, z1, h2, z2))
         if h1 == h2 or z1 * h2 == z2 * h1 or whole == 0:
             continue  # whole for too plain a reason, or nothing to round
-        where = "whole" if is_exact else {0: "above", 999: "below"}.get(thousandths)
         if wanted.get(where):
             wanted[where] -= 1
             yield from points((0, h1, h1 + h2), (0, z1, z1 + z2))
@@ -391,9 +395,9 @@ def longer_and_shorter():
         yield row(b"knots", range(first, first + count))
         yield row(b"values", range(-first, 3 * count - first, 3))
         yield row(b"slopes", range(first, first + count))
-        yield from (b"show knots", b"show values", b"show slopes")
+        yield from SHOW_ALL
         yield from BUILD_AND_SHOW_ALL
-    for name in (b"knots", b"values", b"slopes"):
+    for name in NAMES:
         for count in (40, 0, 4, 41, 1):
             yield row(name, range(10, 10 + count))
             yield b"show " + name
