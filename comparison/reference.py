@@ -1,21 +1,24 @@
 """The reference: an independent workbench that reads commands and writes answers, byte for byte.
 
 It shares nothing with the proved program. It decides by document 01's definition, from the exact
-least value of the quadratic over the piece, and not by the test of Fritsch and Carlson. Slopes are
-built with fractions, which are exact, and rounded at the very end.
+least value of the quadratic over the piece, and not by the test of Fritsch and Carlson. Slopes and
+values are worked out with fractions, which are exact, and rounded at the very end. A value is made
+from the Hermite basis, and not by document 01's line.
 """
 import math
 import re
 import sys
+from bisect import bisect_right
 from collections import namedtuple
 from fractions import Fraction
+from functools import lru_cache
 
 UNIT = 256  # slopes are in 1/256 of a value per count
 WIDEST = 1024
 LARGEST_RISE = 1048576
 MOST_POINTS = 1024
 LONGEST_LINE = 65536
-LONGEST_ROW = 2048  # numbers in one list: more than MOST_POINTS, so that a build can refuse them
+LONGEST_ROW = 2048  # numbers in one list: more than MOST_POINTS, so that they can be refused
 LISTS = (b"knots", b"values", b"slopes")
 
 CAUSES = {
@@ -23,6 +26,8 @@ CAUSES = {
     2: "fewer than 2 or more than 1024 points",
     3: "a width is not in 1 to 1024",
     4: "a rise is outside its limits",
+    5: "a piece is not monotone",
+    6: "position before the first or after the last knot",
 }
 
 
@@ -45,6 +50,7 @@ def least_value(Z, a, b):
     return min(a + 2 * half_linear * x + square * x * x for x in places)
 
 
+@lru_cache(maxsize=None)  # as every evaluation judges all the pieces of its table again
 def verdict(width, rise, left_slope, right_slope):
     """What a piece within its limits is: rising, falling, flat or bends."""
     Z, a, b = UNIT * rise, left_slope * width, right_slope * width
@@ -85,6 +91,25 @@ def build_refusal(knots, values, slopes):
     return None
 
 
+def check_refusal(knots, values, slopes):
+    """The first cause to refuse a table, or None. All that refuses a build is asked before any piece is judged."""
+    refused = build_refusal(knots, values, slopes)
+    if refused is not None:
+        return refused
+    for place, piece in enumerate(zip(differences(knots), differences(values), slopes, slopes[1:])):
+        if verdict(*piece) == "bends":
+            return refusal(5, place)
+    return None
+
+
+def evaluation_refusal(knots, values, slopes, position):
+    """The first cause to refuse an evaluation, or None. The whole table is checked before the position is looked at."""
+    refused = check_refusal(knots, values, slopes)
+    if refused is not None:
+        return refused
+    return None if knots[0] <= position <= knots[-1] else refusal(6, 0)
+
+
 def end_slope(width, rise):
     """The slope at an end of the table: that of the end piece, rounded toward zero."""
     return math.trunc(Fraction(UNIT * rise, width))
@@ -106,6 +131,28 @@ def built_slopes(knots, values):
     pieces = list(zip(differences(knots), differences(values)))
     inner = [inner_slope(*left, *right) for left, right in zip(pieces, pieces[1:])]
     return [end_slope(*pieces[0]), *inner, end_slope(*pieces[-1])]
+
+
+def piece_at(knots, position):
+    """The piece of a position that is not outside: at a knot the one that starts there, at the last knot the last."""
+    return min(bisect_right(knots, position), len(knots) - 1) - 1
+
+
+def value_at(knots, values, slopes, position):
+    """The value where an evaluation is not refused: the curve's own, rounded down.
+
+    The curve is a sum of four: each end's value and each end's slope, times its polynomial of the Hermite basis.
+    """
+    left = piece_at(knots, position)
+    right = left + 1
+    width = knots[right] - knots[left]
+    x = Fraction(position - knots[left], width)
+    return math.floor(
+        values[left] * (1 + 2 * x) * (1 - x) ** 2
+        + values[right] * (3 - 2 * x) * x**2
+        + Fraction(slopes[left] * width, UNIT) * x * (1 - x) ** 2
+        + Fraction(slopes[right] * width, UNIT) * (x - 1) * x**2
+    )
 
 
 # ---- the language
@@ -222,13 +269,22 @@ class Workbench:
     def show(self, name):
         return " ".join(str(number) for number in self.lists[name])
 
+    def table(self):
+        return [self.lists[name] for name in LISTS]
+
     def build(self):
-        knots, values, slopes = (self.lists[name] for name in LISTS)
+        knots, values, slopes = self.table()
         refused = build_refusal(knots, values, slopes)
         if refused is not None:
             return refused
         self.lists[b"slopes"] = built_slopes(knots, values)
         return "ok"
+
+    def check(self):
+        return check_refusal(*self.table()) or "ok"
+
+    def at(self, position):
+        return evaluation_refusal(*self.table(), position) or str(value_at(*self.table(), position))
 
 
 # Each command: what it runs, and the reader of the words after its name, which gives the arguments.
@@ -240,6 +296,8 @@ COMMANDS = {
     b"slopes": Command(Workbench.put, row_of(b"slopes")),
     b"show": Command(Workbench.show, list_name),
     b"build": Command(Workbench.build, numbers()),
+    b"check": Command(Workbench.check, numbers()),
+    b"at": Command(Workbench.at, numbers(32)),
 }
 
 

@@ -1,11 +1,11 @@
 """The reference held against what was worked out without it: the figures of document 01, the
-definition tried at every fraction on small pieces, slopes found in other ways, and lines whose answers
-were written by hand.
+definition tried at every fraction on small pieces, slopes and values found in other ways, and lines
+whose answers were written by hand.
 """
 from fractions import Fraction
 from itertools import product
 
-from reference import UNIT, answers_to, built_slopes, end_slope, inner_slope, verdict
+from reference import UNIT, answers_to, built_slopes, check_refusal, end_slope, inner_slope, piece_at, value_at, verdict
 
 # Copied from document 01, "Figures to hold against it".
 FIGURES = (
@@ -60,6 +60,7 @@ LINES = (
 
 # Lines that come after these three, and the answers that come after their three.
 SET_TABLE = b"knots 0 1 2\nvalues 0 1 4\nslopes 7 8 9\n"
+SHOW_ALL = b"show knots\nshow values\nshow slopes\n"
 TABLE_LINES = (
     (b"", b""),
     (b"show knots\nshow values\n show\tslopes \r\n", b"0 1 2\n0 1 4\n7 8 9\n"),
@@ -106,8 +107,85 @@ TABLE_LINES = (
         b"ok 11\nok 11\nok 11\nrefused 3 at 9: a width is not in 1 to 1024\n",
     ),
     (b"knots 0 0 0\nbuild\nknots 0 1 2\nbuild", b"ok 3\nrefused 3 at 0: a width is not in 1 to 1024\nok 3\nok\n"),
+    # Tables that are accepted, and their values. The first is document 01's.
+    (
+        b"knots 0 3\nvalues 0 -10\nslopes 0 0\nbuild\ncheck\nat 0\nat 1\nat 2\nat 3",
+        b"ok 2\nok 2\nok 2\nok\nok\n0\n-4\n-7\n-10\n",
+    ),
+    (b"check\nat 0\nat 1\nat 2\n" + SHOW_ALL, b"ok\n0\n1\n4\n0 1 2\n0 1 4\n7 8 9\n"),
+    (
+        b"knots 0 2 6\nvalues 10 0 -7\nslopes 0 0 0\ncheck\nat 0\nat 1\nat 2\nat 3\nat 4\nat 5\nat 6",
+        b"ok 3\nok 3\nok 3\nok\n10\n5\n0\n-2\n-4\n-6\n-7\n",
+    ),
+    (
+        b"knots -4 0 4\nvalues -8 0 8\nslopes 512 512 512\ncheck\nat -3\nat -1\nat 0\nat 1\nat 3",
+        b"ok 3\nok 3\nok 3\nok\n-6\n-2\n0\n2\n6\n",
+    ),
+    (b"knots 0 4\nvalues 0 8\nslopes 1536 0\nat 1\nat 2\nat 3", b"ok 2\nok 2\nok 2\n4\n7\n7\n"),
+    (b"knots 0 4\nvalues 0 8\nslopes 0 1536\nat 1\nat 2\nat 3", b"ok 2\nok 2\nok 2\n0\n1\n3\n"),
+    (b"knots 0 4\nvalues 0 -8\nslopes -1536 0\nat 1\nat 2\nat 3", b"ok 2\nok 2\nok 2\n-5\n-7\n-8\n"),
+    (b"values 5 5 5\nslopes 0 0 0\ncheck\nat 0\nat 1\nat 2", b"ok 3\nok 3\nok\n5\n5\n5\n"),
+    (
+        b"knots -2147483648 -2147483646\nvalues 2147483647 2147483645\nslopes -256 -256\n"
+        b"at -2147483648\nat -2147483647\nat -2147483646\nat 2147483647",
+        b"ok 2\nok 2\nok 2\n2147483647\n2147483646\n2147483645\n"
+        b"refused 6 at 0: position before the first or after the last knot\n",
+    ),
+    # Refusals of a table and of a position, each alone.
+    (b"slopes 5 6\ncheck\nat 1\nat 9", b"ok 2\n" + b"refused 1 at 0: the lists' lengths differ\n" * 3),
+    (b"slopes 5 6 7 8\ncheck\nat 1", b"ok 4\n" + b"refused 1 at 0: the lists' lengths differ\n" * 2),
+    (b"values 0 1 4 9\ncheck\nat 1", b"ok 4\n" + b"refused 1 at 0: the lists' lengths differ\n" * 2),
+    (b"knots 0 1 2 3\ncheck\nat 1", b"ok 4\n" + b"refused 1 at 0: the lists' lengths differ\n" * 2),
+    (
+        b"knots 3\nvalues 4\nslopes 5\ncheck\nat 3\nat 4",
+        b"ok 1\nok 1\nok 1\n" + b"refused 2 at 0: fewer than 2 or more than 1024 points\n" * 3,
+    ),
+    (
+        b"knots 2147483647 -2147483648\nvalues 0 0\nslopes 0 0\ncheck\nat 0",  # document 01's
+        b"ok 2\nok 2\nok 2\n" + b"refused 3 at 0: a width is not in 1 to 1024\n" * 2,
+    ),
+    (b"values 0 1 -1048576\ncheck\nat 0", b"ok 3\n" + b"refused 4 at 1: a rise is outside its limits\n" * 2),
+    (
+        b"values -2147483647 -2147483648 2147483647\ncheck\nat 0",
+        b"ok 3\n" + b"refused 4 at 1: a rise is outside its limits\n" * 2,
+    ),
+    (b"slopes -1 0 0\ncheck\nat 2", b"ok 3\n" + b"refused 5 at 0: a piece is not monotone\n" * 2),
+    (b"slopes 0 0 -1\ncheck\nat 0", b"ok 3\n" + b"refused 5 at 1: a piece is not monotone\n" * 2),
+    (b"slopes 0 769 0\ncheck\nat 0", b"ok 3\n" + b"refused 5 at 0: a piece is not monotone\n" * 2),
+    (b"slopes 0 768 0\ncheck\nat 0", b"ok 3\nok\n0\n"),
+    (b"values 0 1 1\nslopes 0 1 0\ncheck\nat 1", b"ok 3\nok 3\n" + b"refused 5 at 1: a piece is not monotone\n" * 2),
+    (b"values 0 1 0\nslopes 0 0 1\ncheck\nat 1", b"ok 3\nok 3\n" + b"refused 5 at 1: a piece is not monotone\n" * 2),
+    (b"at -1\nat 3", b"refused 6 at 0: position before the first or after the last knot\n" * 2),
+    # None of them changes a list.
+    (
+        b"slopes 5 -6 7\ncheck\nat 1\n" + SHOW_ALL,
+        b"ok 3\n" + b"refused 5 at 0: a piece is not monotone\n" * 2 + b"0 1 2\n0 1 4\n5 -6 7\n",
+    ),
+    (
+        b"slopes 5\ncheck\nat 1\n" + SHOW_ALL,
+        b"ok 1\n" + b"refused 1 at 0: the lists' lengths differ\n" * 2 + b"0 1 2\n0 1 4\n5\n",
+    ),
+    (
+        b"knots 0 1 0\ncheck\nat 1\n" + SHOW_ALL,
+        b"ok 3\n" + b"refused 3 at 1: a width is not in 1 to 1024\n" * 2 + b"0 1 0\n0 1 4\n7 8 9\n",
+    ),
+    (b"at 3\n" + SHOW_ALL, b"refused 6 at 0: position before the first or after the last knot\n0 1 2\n0 1 4\n7 8 9\n"),
+    # Two of them: lengths, then the count, then all the widths, then the rises, then the pieces, then the position.
+    (b"knots 0\ncheck\nat 0", b"ok 1\n" + b"refused 1 at 0: the lists' lengths differ\n" * 2),
+    (b"values 0 1048577 0\nknots 0 1 1\ncheck", b"ok 3\nok 3\nrefused 3 at 1: a width is not in 1 to 1024\n"),
+    (
+        b"slopes -1 0 0\nvalues 0 1 1048578\ncheck\nat 9\nknots 0 1 1\ncheck\nat 9",
+        b"ok 3\nok 3\n" + b"refused 4 at 1: a rise is outside its limits\n" * 2
+        + b"ok 3\n" + b"refused 3 at 1: a width is not in 1 to 1024\n" * 2,
+    ),
+    (b"slopes 0 0 -1\nat 9\nat -1", b"ok 3\n" + b"refused 5 at 1: a piece is not monotone\n" * 2),
     # Faults of the line.
     (b"build it\nshow slopes", b"? line 4: too many words\n7 8 9\n"),
+    (b"check it\nat\nat 1 2", b"? line 4: too many words\n? line 5: too few words\n? line 6: too many words\n"),
+    (b"at x y\nat 1r", b"? line 4: too many words\n? line 5: number 1 is not a whole decimal number\n"),
+    (b"at 2147483648\nat\t-0 \r\n", b"? line 4: number 1 does not fit 32 bits\n0\n"),
+    (b"At 1\nChecks\n check\t", b"? line 4: no such command\n? line 5: no such command\nok\n"),
+    (b"slopes 5\ncheck it\nat", b"ok 1\n? line 5: too many words\n? line 6: too few words\n"),
     (b"Build\nbuilds\nshow slopes", b"? line 4: no such command\n? line 5: no such command\n7 8 9\n"),
     (b"slope 5 6 7\nslopess 5 6 7\nshow slopes", b"? line 4: no such command\n? line 5: no such command\n7 8 9\n"),
     (b"show\nshow knots values", b"? line 4: too few words\n? line 5: too many words\n"),
@@ -128,10 +206,15 @@ TABLE_LINES = (
 )
 
 
+def set_level(count):
+    """Lines that set a level table of so many points."""
+    knots = b" ".join(b"%d" % knot for knot in range(count))
+    return b"knots %b\nvalues%b\nslopes%b\n" % (knots, b" 3" * count, b" 5" * count)
+
+
 def level_table(count, tail=b""):
     """Lines that set a level table of so many points, then TAIL, build, and show the slopes."""
-    knots = b" ".join(b"%d" % knot for knot in range(count))
-    return b"knots %b\nvalues%b\nslopes%b\n%bbuild\nshow slopes\n" % (knots, b" 3" * count, b" 5" * count, tail)
+    return set_level(count) + tail + b"build\nshow slopes\n"
 
 
 # Whole inputs, with tables of the most points, and one more.
@@ -149,6 +232,20 @@ COUNT_LINES = (
     (
         level_table(1024, b"values" + b" 3" * 1023 + b" -1048574\n"),
         b"ok 1024\n" * 4 + b"refused 4 at 1022: a rise is outside its limits\n5" + b" 5" * 1023 + b"\n",
+    ),
+    (b"check\nat 0", b"refused 2 at 0: fewer than 2 or more than 1024 points\n" * 2),
+    (
+        set_level(1024) + b"check\nbuild\ncheck\nat 0\nat 1023\nat 1024",
+        b"ok 1024\n" * 3 + b"refused 5 at 0: a piece is not monotone\nok\nok\n3\n3\n"
+        b"refused 6 at 0: position before the first or after the last knot\n",
+    ),
+    (
+        set_level(1024) + b"slopes" + b" 0" * 1023 + b" 1\ncheck\nat 0",
+        b"ok 1024\n" * 4 + b"refused 5 at 1022: a piece is not monotone\n" * 2,
+    ),
+    (
+        set_level(1025) + b"check\nat 0",
+        b"ok 1025\n" * 3 + b"refused 2 at 0: fewer than 2 or more than 1024 points\n" * 2,
     ),
 )
 
@@ -247,16 +344,65 @@ def small_tables():
 
 def table_fault():
     """A sentence on the first table whose slopes are wrong, or None."""
+    for *piece, expected in FIGURES:
+        width, rise, *slopes = piece
+        if (check_refusal((0, width), (0, rise), slopes) is None) == (expected == "bends"):
+            return f"piece {piece} is {expected} in document 01, and a check of it as a table says otherwise"
     for knots, values, expected in BUILT_FIGURES:
         if built_slopes(knots, values) != expected:
             return f"knots {knots} and values {values} have slopes {expected} in document 01, and not in the reference"
     for widths, rises in small_tables():
         knots, values = ([sum(steps[:place]) for place in range(4)] for steps in (widths, rises))
         slopes = built_slopes(knots, values)
+        if check_refusal(knots, values, slopes):
+            return f"knots {knots}, values {values} with built slopes {slopes} are refused by a check"
         for place, (width, rise) in enumerate(zip(widths, rises)):
             monotone = "rising" if rise > 0 else "falling" if rise < 0 else "flat"
             if verdict(width, rise, slopes[place], slopes[place + 1]) != monotone:
                 return f"piece {place} of knots {knots}, values {values}, built slopes {slopes} is not {monotone}"
+    return None
+
+
+def value_by_line(width, rise, left_slope, right_slope, t):
+    """Document 01's line: how far the value at T is above the left value."""
+    Z, a, b = UNIT * rise, left_slope * width, right_slope * width
+    over = a * t * width**2 + (3 * Z - 2 * a - b) * t**2 * width + (a + b - 2 * Z) * t**3
+    return over // (UNIT * width**3)
+
+
+def monotone_pieces():
+    """Pieces that a check accepts, of all sizes, with a and b in halves of Z as near as whole slopes come."""
+    for width, rise in product((1, 2, 3, 7, 1023, 1024), (0, 1, 5, 999, 1048576)):
+        for halves in product((0, 1, 2, 6, 8), repeat=2):
+            left, right = (half * UNIT * rise // (2 * width) for half in halves)
+            if verdict(width, rise, left, right) != "bends":
+                yield width, rise, left, right
+                yield width, -rise, -left, -right
+
+
+def value_fault():
+    """A sentence on the first value that is wrong, or None."""
+    for width, rise, left, right in monotone_pieces():
+        table = (-5, width - 5), (7, 7 + rise), (left, right)
+        steps = sorted({0, 1, 2, width // 3, width // 2, width - 1, width} & {*range(width + 1)})
+        values = [value_at(*table, t - 5) for t in steps]
+        if values != [7 + value_by_line(width, rise, left, right, t) for t in steps]:
+            return f"knots, values and slopes {table} do not have the values of document 01's line"
+        if (values[0], values[-1]) != (7, 7 + rise) or values != sorted(values, reverse=rise < 0):
+            return f"knots, values and slopes {table} have values that do not go from the left one to the right one"
+    return None
+
+
+def position_fault():
+    """A sentence on the first position that is given to a wrong piece, or None."""
+    for widths in product((1, 2, 3), repeat=3):
+        knots = [sum(widths[:place]) for place in range(4)]
+        for place, width in enumerate(widths):
+            for position in range(knots[place], knots[place] + width):
+                if piece_at(knots, position) != place:
+                    return f"position {position} of knots {knots} is not given to piece {place}"
+        if piece_at(knots, knots[3]) != 2:
+            return f"the last of the knots {knots} is not given to the last piece"
     return None
 
 
@@ -271,4 +417,7 @@ def line_fault():
 
 def first_fault():
     """A sentence on the first thing that is wrong with the reference, or None."""
-    return piece_fault() or inner_slope_fault() or end_slope_fault() or table_fault() or line_fault()
+    return (
+        piece_fault() or inner_slope_fault() or end_slope_fault() or table_fault()
+        or value_fault() or position_fault() or line_fault()
+    )
