@@ -7,6 +7,7 @@ to the answers which the README shows.
 import sys
 from pathlib import Path
 
+import evaluations
 import language
 import pieces
 import rows
@@ -16,6 +17,7 @@ FIRST_EXAMPLE = Path(__file__).resolve().parent.parent / "examples" / "first.txt
 GROUPS = (
     *pieces.GROUPS,
     *tables.GROUPS,
+    *evaluations.GROUPS,
     *rows.GROUPS,
     *language.GROUPS,
     ("The table of before.", rows.last_table_again),

@@ -10,6 +10,7 @@ def blanks():
     yield b"piece 1 1 256 256 "
     yield b"piece 1 1 256 256\t \t"
     yield b" \t piece 1 -1 -256 -256 \t "
+    yield from (b"at\t2", b"  at   2", b"\tat\t \t2 \t", b" \tcheck\t ")
 
 
 def carriage_returns():
@@ -19,6 +20,7 @@ def carriage_returns():
     yield b" \t\r"
     yield b"# a comment\r"
     yield b"piece 1 0 0 0\r"
+    yield from (b"at 2\r", b"at 2 \t\r", b"check\r", b"check \r")
     # Only one CR, and only at the end, belongs to the ending.
     yield b"piece 1 1 256 256\r\r"
     yield b"\r\r"
@@ -26,6 +28,7 @@ def carriage_returns():
     yield b"piece 1 1\r256 256"
     yield b"piece 1 1 256 256 \r\r"
     yield b"pie\rce 1 1 256 256"
+    yield from (b"at 2\r\r", b"at 2 \r\r", b"at\r2", b"\rat 2", b"check\r\r", b"check \r\r", b"\rcheck")
 
 
 def silent_lines():
@@ -35,6 +38,7 @@ def silent_lines():
     yield b"piece 1 1 256 256 # steep"
     yield b"piece 1 1 256 #256"
     yield b"piece# 1 1 256 256"
+    yield from (b"#at 2", b"#check", b" #check", b"at 2 # two", b"at #2", b"at# 2", b"check # all", b"check#")
 
 
 def unknown_commands():
@@ -44,24 +48,36 @@ def unknown_commands():
         b"piece\x0b1", b"piece\x0c", b"\xef\xbb\xbfpiece",
     ):
         yield word + b" 1 1 256 256"
+    for word in (b"At", b"AT", b"a", b"t", b"ta", b"att", b"cat", b"at,", b"at2", b"at\x00", b"at\x0b", b"\xffat"):
+        yield word + b" 2"
+    for word in (
+        b"Check", b"CHECK", b"checK", b"chec", b"heck", b"checks", b"check,", b"check1", b"chekc", b"check\x00",
+        b"check\x0c", b"\xa0check",
+    ):
+        yield word
     # The command is asked before the count of words and before the numbers.
     yield b"Piece"
     yield b"pieces one two"
     yield b"piece1 1 256 256"
+    yield from (b"At", b"at2", b"att x y", b"Check all")
 
 
 def counts_of_words():
     yield from (b"piece", b"piece ", b"piece 1", b"piece 1 1", b"piece 1 1 256")
     yield from (b"piece 1 1 256 256 256", b"piece 1 1 256 256 256 256", b"piece 1 1 256 256 x")
+    yield from (b"at", b"at ", b"at\t\r", b"at 2 3", b"at 2 2 2", b"at 2 x", b"check 2", b"check all", b"check 0 1 2")
+    yield from (b"check check", b"check knots", b"at at 2")
     # The count is asked before the numbers.
     yield from (b"piece x", b"piece 1.5 1 256", b"piece x 1 256 256 256", b"piece piece")
+    yield from (b"at x y", b"at 2147483648 2", b"at x 2147483648 2")
 
 
 def each_number(word):
-    """Good pieces with one number replaced by the word, each of the four in turn."""
+    """Good pieces with one number replaced by the word, each of the four in turn, and the word as a position."""
     good = [b"1", b"1", b"256", b"256"]
     for place in range(4):
         yield b" ".join([b"piece", *good[:place], word, *good[place + 1 :]])
+    yield b"at " + word
 
 
 def not_decimal():
@@ -108,6 +124,7 @@ def first_fault():
     yield b"piece 0 1 256 x"
     yield b"piece 1025 1048577 0 2147483648"
     yield b"piece 0 9223372036854775808 0 0"
+    yield b"at -4 6"
 
 
 def long_lines():

@@ -137,8 +137,8 @@ def longest_lines():
 
 
 def last_table():
-    """What the lists hold while the lines that follow are read. Nothing of those changes them."""
-    yield from (b"knots -3 1 2 5", b"values 10 9 7 -40", b"slopes 1 22 333 -4444")
+    """A table to evaluate, and to stay, while the lines that follow are read. Nothing of those changes a list."""
+    yield from (b"knots -3 1 2 5", b"values 90 50 7 -40", b"slopes -1 -22 -333 -4444")
     yield from SHOW_ALL
 
 
