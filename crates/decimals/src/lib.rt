@@ -8,3 +8,4 @@ pub use reading::whole;
 pub use reading::whole32;
 pub use writing::append_natural;
 pub use writing::append_whole;
+pub use writing::append_whole32;

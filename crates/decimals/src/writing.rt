@@ -29,6 +29,13 @@ pub fn append_whole(into: &mut [u8], held: usize, n: i64) -> usize
     append_natural(into, held, magnitude(n))
 }
 
+// The same for a number of 32 bits.
+pub fn append_whole32(into: &mut [u8], held: usize, n: i32) -> usize
+    ensures { λ r. ⌜ Appended (now (into .entry)) held (textOf n) (now (into .exit)) r ⌝ }
+{
+    append_whole(into, held, n as i64)
+}
+
 // How far n is from 0. The least number has no positive counterpart, so its way goes by -1.
 fn magnitude(n: i64) -> u64
     ensures { λ r. ⌜ r ≡ natAbs n ⌝ }

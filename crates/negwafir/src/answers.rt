@@ -42,6 +42,17 @@ pub fn done(r: rules::Refusal) -> bool {
     refused(r)
 }
 
+// The value at a position, or the refusal.
+pub fn value(v: curve::Value) -> bool {
+    if v.refusal.number != rules::DONE {
+        return refused(v.refusal);
+    }
+    let mut space = [0u8; 128];
+    let out: &mut [u8] = &mut space;
+    let n = decimals::append_whole32(out, 0, v.value);
+    close(out, n)
+}
+
 // `ok COUNT`.
 pub fn ok_count(count: usize) -> bool {
     let mut space = [0u8; 128];
@@ -59,24 +70,19 @@ pub fn row(list: &[i32]) -> bool {
     let mut n = 0;
     let mut i = 0;
     while i < list.len() {
-        n = append_next(out, n, wide(list[i]));
+        n = append_next(out, n, list[i]);
         i += 1;
     }
     close(out, n)
 }
 
 // A number behind the `held` bytes of a line, and a space before it unless it is the first.
-fn append_next(out: &mut [u8], held: usize, number: i64) -> usize {
+fn append_next(out: &mut [u8], held: usize, number: i32) -> usize {
     if held == 0 {
-        return decimals::append_whole(out, held, number);
+        return decimals::append_whole32(out, held, number);
     }
     let n = words::append(out, held, b" ");
-    decimals::append_whole(out, n, number)
-}
-
-// A number of 32 bits as one of 64.
-fn wide(number: i32) -> i64 {
-    number as i64
+    decimals::append_whole32(out, n, number)
 }
 
 fn word(text: &[u8]) -> bool {
@@ -106,6 +112,12 @@ fn cause(out: &mut [u8], held: usize, number: u32) -> usize {
         2 => words::append(out, held, b"fewer than 2 or more than 1024 points"),
         3 => words::append(out, held, b"a width is not in 1 to 1024"),
         4 => words::append(out, held, b"a rise is outside its limits"),
+        5 => words::append(out, held, b"a piece is not monotone"),
+        6 => words::append(
+            out,
+            held,
+            b"position before the first or after the last knot",
+        ),
         _ => held,
     }
 }

@@ -105,5 +105,11 @@ fn other_command(
     if check::same(name, b"build") {
         return tables::build(line, from, number, knots, values, slopes);
     }
+    if check::same(name, b"check") {
+        return tables::check(line, from, number, knots, values, slopes);
+    }
+    if check::same(name, b"at") {
+        return tables::at(line, from, number, knots, values, slopes);
+    }
     answers::fault(number, b"no such command")
 }

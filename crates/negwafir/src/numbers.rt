@@ -1,5 +1,12 @@
-// The numbers that a command is given. Each function reads the next word of a line, and answers the fault where it is no such number.
+// The words that a command is given: how many there are, and the numbers among them. Each function answers the fault where the words are not as they
+// should be.
 use crate::answers;
+
+// As many words as a command takes, or a fault that has been answered: whether that could be written.
+pub enum Counted {
+    Right,
+    Fault(bool),
+}
 
 // A number and where its word ends, or a fault that has been answered: whether that could be written.
 pub enum Wide {
@@ -10,6 +17,18 @@ pub enum Wide {
 pub enum Narrow {
     Is(i32, usize),
     Fault(bool),
+}
+
+// Whether the command has just `wanted` words after its name.
+pub fn count(line: &[u8], from: usize, number: u64, wanted: usize) -> Counted {
+    let found = words::count(line, from);
+    if found < wanted {
+        return Counted::Fault(answers::fault(number, b"too few words"));
+    }
+    if wanted < found {
+        return Counted::Fault(answers::fault(number, b"too many words"));
+    }
+    Counted::Right
 }
 
 // The next word as a number of 64 bits, the k-th of its command.

@@ -1,18 +1,16 @@
 // The command on a piece alone, which needs no list.
 use crate::answers;
+use crate::numbers::Counted;
 use crate::numbers::Narrow;
 use crate::numbers::Wide;
+use crate::numbers::count;
 use crate::numbers::read_narrow;
 use crate::numbers::read_wide;
 
 // `piece H Z M N`: the verdict on one piece, of which `from` is where the words after the command start.
 pub fn piece(line: &[u8], from: usize, number: u64) -> bool {
-    let found = words::count(line, from);
-    if found < 4 {
-        return answers::fault(number, b"too few words");
-    }
-    if 4 < found {
-        return answers::fault(number, b"too many words");
+    if let Counted::Fault(written) = count(line, from, number, 4) {
+        return written;
     }
     match read_wide(line, from, number, 1) {
         Wide::Is(h, after) => piece_of_width(line, after, number, h),

@@ -17,14 +17,11 @@ slice-aggregate-out c = search needs
 loop-holds : tie.Need-loop-holds Inv-loop μ-loop
 loop-holds c = search needs
 
-mul-wide : tie.Need-mul-wide Inv-loop μ-loop
-mul-wide c = search needs
+mul-append-next : tie.Need-mul-append-next Inv-loop μ-loop
+mul-append-next c = search needs
 
-shared-slice-copy-out-wide : tie.Need-shared-slice-copy-out-wide Inv-loop μ-loop
-shared-slice-copy-out-wide c = search needs
-
-wide-requires : tie.Need-wide-requires Inv-loop μ-loop
-wide-requires c κs = search needs
+shared-slice-copy-out-append-next : tie.Need-shared-slice-copy-out-append-next Inv-loop μ-loop
+shared-slice-copy-out-append-next c = search needs
 
 append-next-requires : tie.Need-append-next-requires Inv-loop μ-loop
 append-next-requires c κs = search needs
@@ -52,9 +49,8 @@ row-spec =
     μ-loop
     slice-aggregate-out
     loop-holds
-    mul-wide
-    shared-slice-copy-out-wide
-    wide-requires
+    mul-append-next
+    shared-slice-copy-out-append-next
     append-next-requires
     add-i
     loop-less
