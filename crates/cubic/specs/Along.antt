@@ -41,18 +41,18 @@ amid {l} {r} {w} a b =
     level : (l r w : ℤ) → r -ℤ l ≡ pos 0 → pos 0 ≡ w → (l ≤ℤ (l +ℤ w)) × ((l +ℤ w) ≤ℤ r)
     level l r w = lin (l ∷ r ∷ w ∷ []) (search says depth 30 fits 9000) (omega arith)
 
--- and a part of a rise is not larger than the whole
-pub part-within : {M : ℕ} {z w : ℤ} → Within M z → Along z (pos 0) w → Along z w z → Within M w
-part-within {M} {z} {w} h a b =
-    by-sign z (λ p. let s = up z w (a .rising p) (b .rising p) (within-high h) in within M w (s .0) (s .1))
-    (λ p. let s = down z w (a .falling p) (b .falling p) (within-low h) in within M w (s .0) (s .1))
+-- what lies on the way from 0 to y is not larger than y
+pub part-within : {M : ℕ} {z w y : ℤ} → Within M y → Along z (pos 0) w → Along z w y → Within M w
+part-within {M} {z} {w} {y} h a b =
+    by-sign z (λ p. let s = up w y (a .rising p) (b .rising p) (within-high h) in within M w (s .0) (s .1))
+    (λ p. let s = down w y (a .falling p) (b .falling p) (within-low h) in within M w (s .0) (s .1))
     (λ e. let s = level w (a .level e) in within M w (s .0) (s .1))
   where
-    up : (z w : ℤ) → pos 0 ≤ℤ w → w ≤ℤ z → z ≤ℤ pos M → (negℤ (pos M) ≤ℤ w) × (w ≤ℤ pos M)
-    up z w = lin (z ∷ w ∷ []) (search says depth 30 fits 9000) (omega arith)
+    up : (w y : ℤ) → pos 0 ≤ℤ w → w ≤ℤ y → y ≤ℤ pos M → (negℤ (pos M) ≤ℤ w) × (w ≤ℤ pos M)
+    up w y = lin (w ∷ y ∷ []) (search says depth 30 fits 9000) (omega arith)
 
-    down : (z w : ℤ) → w ≤ℤ pos 0 → z ≤ℤ w → negℤ (pos M) ≤ℤ z → (negℤ (pos M) ≤ℤ w) × (w ≤ℤ pos M)
-    down z w = lin (z ∷ w ∷ []) (search says depth 30 fits 9000) (omega arith)
+    down : (w y : ℤ) → w ≤ℤ pos 0 → y ≤ℤ w → negℤ (pos M) ≤ℤ y → (negℤ (pos M) ≤ℤ w) × (w ≤ℤ pos M)
+    down w y = lin (w ∷ y ∷ []) (search says depth 30 fits 9000) (omega arith)
 
     level : (w : ℤ) → pos 0 ≡ w → (negℤ (pos M) ≤ℤ w) × (w ≤ℤ pos M)
     level w = lin (w ∷ []) (search says depth 30 fits 9000) (omega arith)

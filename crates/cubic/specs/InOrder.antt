@@ -1,16 +1,18 @@
 -- On a monotone piece the exact cubic is in order along the rise at any two fractions of the width, and so are the values answered.
 use mathlib.Core.Path.{_≡_, sym, _∙_, ap, subst, subst₂}
 use mathlib.Core.List.{[], _∷_}
+use Prim.Native.Nat.{ℕ}
 use native.Mathlib.Omega.{arith}
 use lib.IntN.{ℤ, pos, negℤ, _*ℤ_}
 use lib.Signed.{_≤ℤ_, _<ℤ_, ≤ℤ-refl}
 use Rattle.integers.specs.Ring.{ring, quote}
 use Rattle.integers.specs.Linear.{lin, says}
 use Rattle.integers.specs.Order.{0<→1≤, positives}
+use Rattle.integers.specs.Within.{Within}
 use Rattle.integers.specs.Rounding.{Rounding, rounding-down}
 use Rattle.cubic.specs.Piece.{riseAt, Monotone}
 use Rattle.cubic.specs.Value.{rounded, risen}
-use Rattle.cubic.specs.Along.{Along, along-through}
+use Rattle.cubic.specs.Along.{Along, along-through, part-within}
 use Rattle.cubic.specs.Monotone.{level-numbers}
 use Rattle.cubic.specs.Rise.{in-order, turned-over, at-left, at-right}
 
@@ -32,6 +34,12 @@ module _ {U h z m n : ℤ} (o : Monotone U h z m n) where
     where
       back : {x y : ℤ} → negℤ x ≤ℤ negℤ y → y ≤ℤ x
       back {x} {y} = lin (x ∷ y ∷ []) (search says depth 30 fits 9000) (omega arith)
+
+  -- so that it is nowhere larger than at the right end
+  pub the-cubic-is-within : {M : ℕ} (t q : ℤ) → pos 0 ≤ℤ t → t ≤ℤ q → pos 1 ≤ℤ q → Within M (U *ℤ z *ℤ (q *ℤ q *ℤ q)) → Within M (riseAt (U *ℤ z) (m *ℤ h) (n *ℤ h) t q)
+  the-cubic-is-within t q t₀ tq q₁ w =
+      part-within w (subst (λ (v : ℤ). Along z v (riseAt (U *ℤ z) (m *ℤ h) (n *ℤ h) t q)) (at-left (U *ℤ z) (m *ℤ h) (n *ℤ h) q) (the-cubic-is-in-order (pos 0) t q (≤ℤ-refl (pos 0)) t₀ tq q₁))
+      (subst (Along z (riseAt (U *ℤ z) (m *ℤ h) (n *ℤ h) t q)) (at-right (U *ℤ z) (m *ℤ h) (n *ℤ h) q) (the-cubic-is-in-order t q q t₀ tq (≤ℤ-refl q) q₁))
 
 -- ---- rounded
 

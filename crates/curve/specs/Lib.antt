@@ -5,3 +5,4 @@ pub mod BetweenTheValues
 pub mod AtEachKnot
 pub mod FitsThirtyTwoBits
 pub mod Determined
+pub mod Figures

@@ -8,9 +8,11 @@ use mir.Syntax.{w32}
 use borrow.Author.Needs.{needs}
 use Rattle.integers.specs.Sizes.{Known, held}
 use Rattle.integers.specs.Tests.{tests, passed, failed}
+use Rattle.rules.specs.Refusals.{Given}
 use Rattle.rules.specs.Order.{stopped, went-on}
-use Rattle.table.specs.Table.{entry}
+use Rattle.table.specs.Table.{table, entry, checkOrder}
 use Rattle.table.specs.Accepted.{accepted-table}
+use Rattle.position.specs.Position.{HoldsAt}
 use Rattle.position.specs.Refused.{as-checked, refused-outside, taken-inside}
 use Rattle.position.proofs.refusal.Statement.{statement}
 use Rattle.position.proofs.refusal.Tie as tie
@@ -18,8 +20,12 @@ use Rattle.position.proofs.refusal.Tie as tie
 check-requires : tie.Need-check-requires
 check-requires c κs = search needs
 
+-- what the table check answers, among the causes of an evaluation
+checked : (c : tie.After-check) → let s = c .before .args in Given (HoldsAt (table (s .knots .now) (s .values .now) (s .slopes .now)) (s .position)) checkOrder (c .check .result .number) (c .check .result .place)
+checked c = as-checked {n = c .check .result .number} {p = c .check .result .place} (c .check .ensures)
+
 returns : tie.Need-returns
-returns c = stopped (6 ∷ []) (c .if1 .taken) (as-checked (c .before .before .check .ensures))
+returns c = stopped (6 ∷ []) (c .if1 .taken) (checked (c .before .before))
 
 -- an accepted table has two points or more
 points : (c : tie.Else1) → 2 ≤ length (c .before .before .before .args .knots .now)
@@ -38,7 +44,7 @@ first c =
 returns-2 : tie.Need-returns-2
 returns-2 c =
     let p = c .before .before in
-    went-on (p .if1 .left) (as-checked (p .before .before .check .ensures))
+    went-on (p .if1 .left) (checked (p .before .before))
     (refused-outside (λ b. clashℤ (passed (first (c .before)) (c .if2 .taken) (search tests depth 30 fits 9000) tt) (b .low)))
 
 -- ---- after the last
@@ -60,14 +66,14 @@ last c =
 returns-3 : tie.Need-returns-3
 returns-3 c =
     let p = c .before .before .before .before in
-    went-on (p .if1 .left) (as-checked (p .before .before .check .ensures))
+    went-on (p .if1 .left) (checked (p .before .before))
     (refused-outside (λ b. clashℤ (passed (last (c .before)) (c .if3 .taken) (search tests depth 30 fits 9000) tt) (b .high)))
 
 returns-4 : tie.Need-returns-4
 returns-4 c =
     let q = c .before .before in
     let p = q .before .before in
-    went-on (p .if1 .left) (as-checked (p .before .before .check .ensures))
+    went-on (p .if1 .left) (checked (p .before .before))
     (taken-inside
     (record {
       low = failed (first (q .before)) (q .if2 .left) (search tests depth 30 fits 9000) tt;

@@ -1,15 +1,17 @@
 -- `curve::rise::risen` meets its contract: the sizes of an accepted piece's coefficients leave room for the cubic, and the denominator for its own.
-use mathlib.Core.Path.{_≡_, sym, _∙_, ap}
+use mathlib.Core.Path.{_≡_, sym, _∙_, ap, subst}
 use mathlib.Core.List.{List, [], _∷_}
 use borrow.Author.Needs.{needs}
 use lib.IntN.{ℤ, pos, _*ℤ_}
 use lib.Signed.{ltZ-yes}
 use mir.Syntax.{w32, w64}
 use Rattle.integers.specs.Promise.{Between, Quotient, floorOf}
-use Rattle.integers.specs.Sizes.{Known, held, fits, sized, plain-is, code, returned}
+use Rattle.integers.specs.Within.{Within}
+use Rattle.integers.specs.Sizes.{Known, known, held, fits, sized, plain-is, code, returned}
 use Rattle.integers.specs.Arguments.{arguments, plainly₂, as-coded₁, as-coded₂, as-coded₃}
 use Rattle.cubic.specs.Piece.{unit, riseAt}
 use Rattle.cubic.specs.Rise.{horner}
+use Rattle.cubic.specs.InOrder.{the-cubic-is-within}
 use Rattle.cubic.specs.Small.{monotone-small}
 use Rattle.rules.specs.Limits.{WidthWithin}
 use Rattle.rules.specs.Known.{known-width, known-rise, known-inside}
@@ -77,6 +79,13 @@ is-cubic c =
     let s = c .before .args in
     c .numerator .ensures ∙ plain-is {Γ = given (c .before)} (search code depth 30 fits 9000) tt ∙ sym (horner (unit *ℤ s .z) (s .m *ℤ s .h) (s .n *ℤ s .h) (s .t) (s .h))
 
+-- nowhere larger than at the right end, where it is Z·h³
+cubic-within : (c : tie.After-numerator) → Within 288230376151711744 (c .numerator .result)
+cubic-within c =
+    let s = c .before in
+    subst (Within _) (sym (is-cubic c))
+    (the-cubic-is-within (s .pre .1 .1 .0) (s .args .t) (s .args .h) (s .pre .1 .1 .1 .low) (s .pre .1 .1 .1 .high) (s .pre .0 .low) (sized (given s) (search code depth 30 fits 9000) tt))
+
 -- ---- the denominator, and the quotient
 
 mul-floor-div : tie.Need-mul-floor-div
@@ -96,7 +105,7 @@ returns c =
     let s = c .before .before .args in
     let d = unit *ℤ (s .h *ℤ s .h *ℤ s .h) in
     returned w64 (c .floor-div .ok)
-    (plainly₂ (held w64 (c .before .numerator .result) (record { sfits = c .before .numerator .ok }) ∷ given (c .before .before)) (λ (n d : ℤ). Quotient n d (c .floor-div .result)) (c .floor-div .ensures) (search arguments depth 30 fits 9000) tt .is
+    (plainly₂ (known (c .before .numerator .result) _ (cubic-within (c .before)) ∷ given (c .before .before)) (λ (n d : ℤ). Quotient n d (c .floor-div .result)) (c .floor-div .ensures) (search arguments depth 30 fits 9000) tt .is
     ∙ ap (λ (v : ℤ). floorOf v d) (is-cubic (c .before)))
 
 pub risen-spec : {M : Type 1} → statement M

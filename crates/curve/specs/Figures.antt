@@ -1,0 +1,29 @@
+-- "Figures to hold against it" of the exact rules, as far as they speak of values: the definitions that `evaluate` promises give them.
+use mathlib.Core.Path.{refl}
+use mathlib.Core.List.{[], _∷_}
+use native.Mathlib.Omega.{arith}
+use lib.IntN.{pos, negsuc}
+use lib.Signed.{leZ-yes, ltZ-yes}
+use Rattle.table.specs.Table.{Table, table}
+use Rattle.position.specs.Position.{inside, at-last-knot}
+use Rattle.curve.specs.Curve.{ValueAt}
+
+-- "points (0,0), (3,−10) have slopes −853, −853"
+abbrev pub falling : Table
+falling = table (pos 0 ∷ pos 3 ∷ []) (pos 0 ∷ negsuc 9 ∷ []) (negsuc 852 ∷ negsuc 852 ∷ [])
+
+-- "these last give −4 at position 1", and, by the sampling program's lines, these values at the others
+pub record Sampled : Type 0 where
+  pub at-0 : ValueAt falling (pos 0) (pos 0)
+  pub at-1 : ValueAt falling (pos 1) (negsuc 3)
+  pub at-2 : ValueAt falling (pos 2) (negsuc 6)
+  pub at-3 : ValueAt falling (pos 3) (negsuc 9)
+
+pub sampled : Sampled
+sampled =
+    record {
+      at-0 = record { piece = 0; belongs = inside {i = 0} (omega arith) (leZ-yes tt) (ltZ-yes tt); is = refl };
+      at-1 = record { piece = 0; belongs = inside {i = 0} (omega arith) (leZ-yes tt) (ltZ-yes tt); is = refl };
+      at-2 = record { piece = 0; belongs = inside {i = 0} (omega arith) (leZ-yes tt) (ltZ-yes tt); is = refl };
+      at-3 = record { piece = 0; belongs = at-last-knot {i = 0} refl refl; is = refl };
+    }
