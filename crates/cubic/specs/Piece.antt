@@ -8,7 +8,8 @@ use lib.Signed.{_≤ℤ_, _<ℤ_}
 abbrev pub unit : ℤ
 unit = pos 256
 
--- "a·q² + 2·(3Z − 2a − b)·k·q + 3·(a + b − 2Z)·k²": the cubic's slope at the fraction k/q of the width, times U·h·q².
+-- "a·q² + 2·(3Z − 2a − b)·k·q + 3·(a + b − 2Z)·k²": the cubic's slope at the fraction k/q of the width h, times
+-- U·h·q², where U is the slope unit.
 abbrev pub slopeAt : (Z a b k q : ℤ) → ℤ
 slopeAt Z a b k q =
     a *ℤ (q *ℤ q) +ℤ pos 2 *ℤ (pos 3 *ℤ Z -ℤ pos 2 *ℤ a -ℤ b) *ℤ (k *ℤ q) +ℤ pos 3 *ℤ (a +ℤ b -ℤ pos 2 *ℤ Z) *ℤ (k *ℤ k)
@@ -23,7 +24,8 @@ pub record Monotone (U h z m n : ℤ) : Type 0 where
   pub falling : z <ℤ pos 0 → NeverAgainst (negℤ (U *ℤ z)) (negℤ (m *ℤ h)) (negℤ (n *ℤ h))
   pub level : z ≡ pos 0 → (m *ℤ h ≡ pos 0) × (n *ℤ h ≡ pos 0)
 
--- "a·t·h² + (3Z − 2a − b)·t²·h + (a + b − 2Z)·t³": the cubic's rise up to the fraction t/h of the width, times U·h³.
+-- "a·t·h² + (3Z − 2a − b)·t²·h + (a + b − 2Z)·t³": the cubic's rise up to the fraction t/h of the width,
+-- times U·h³. The laws take any fraction; in a value h is the width itself.
 abbrev pub riseAt : (Z a b t h : ℤ) → ℤ
 riseAt Z a b t h =
     a *ℤ t *ℤ (h *ℤ h) +ℤ (pos 3 *ℤ Z -ℤ pos 2 *ℤ a -ℤ b) *ℤ (t *ℤ t) *ℤ h +ℤ (a +ℤ b -ℤ pos 2 *ℤ Z) *ℤ (t *ℤ t *ℤ t)

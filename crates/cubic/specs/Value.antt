@@ -7,6 +7,7 @@ use Rattle.cubic.specs.Piece.{riseAt}
 abbrev pub rounded : (n d : ℤ) → ℤ
 rounded n d = floorOf n d
 
--- "(a·t·h² + (3Z − 2a − b)·t²·h + (a + b − 2Z)·t³) / (256·h³)": what "the left value plus" is said of. Here Z = U·z, a = m·h and b = n·h.
+-- "the left value plus (a·t·h² + (3Z − 2a − b)·t²·h + (a + b − 2Z)·t³) / (256·h³)": that quotient, rounded. Here Z = U·z, a = m·h and b = n·h, with U the
+-- slope unit.
 abbrev pub risen : (U h z m n t : ℤ) → ℤ
 risen U h z m n t = rounded (riseAt (U *ℤ z) (m *ℤ h) (n *ℤ h) t h) (U *ℤ (h *ℤ h *ℤ h))

@@ -15,12 +15,12 @@ pub data Decided (A : Type 0) : Bool → Type 0 where
   holds : A → Decided A true
   fails : (A → ⊥) → Decided A false
 
--- q is n/d rounded down, for d > 0: the one whole number with q·d ≤ n < (q + 1)·d.
+-- q is n/d rounded down, for d > 0: the one whole number with q·d ≤ n < (q + 1)·d. There is none for any other d.
 pub record Floor (n d q : ℤ) : Type 0 where
   pub low : (q *ℤ d) ≤ℤ n
   pub high : n <ℤ ((q +ℤ pos 1) *ℤ d)
 
--- n/d rounded down for d > 0 (`floor-is` in Division.antt says that it is so), and 0 for any other d.
+-- n/d rounded down for d > 0 (`floor-is` in Division.antt proves it), and 0 for any other d.
 abbrev pub floorOf : ℤ → ℤ → ℤ
 floorOf n (pos zero) = pos 0
 floorOf (pos n) (pos (suc d)) = pos (n / suc d)
@@ -34,7 +34,7 @@ pub record Quotient (n d q : ℤ) : Type 0 where
 abbrev pub magnitude : ℤ → ℤ
 magnitude x = pos (natAbs x)
 
--- x, given the sign of s.
+-- A magnitude x, given the sign of s: −x where s is negative, and else x.
 abbrev pub withSign : (s x : ℤ) → ℤ
 withSign (pos n) x = x
 withSign (negsuc n) x = negℤ x

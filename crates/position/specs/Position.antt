@@ -9,12 +9,13 @@ use Rattle.integers.specs.Promise.{Between}
 use Rattle.rules.specs.Refusals.{Given, Answered}
 use Rattle.table.specs.Table.{Table, entry, Holds}
 
--- "A position at an inner knot belongs to the piece that starts there; the last knot belongs to the last piece."
+-- "A position at an inner knot belongs to the piece that starts there; the last knot belongs to the last piece." One between two knots belongs to the
+-- piece between them. Where no width is refused, each position from the first knot to the last has one piece; elsewhere nothing rests on this.
 pub data Belongs (ks : List ℤ) (x : ℤ) : ℕ → Type 0 where
   inside : {i : ℕ} → i + 1 < length ks → entry ks i ≤ℤ x → x <ℤ entry ks (i + 1) → Belongs ks x i
   at-last-knot : {i : ℕ} → i + 2 ≡ length ks → x ≡ entry ks (i + 1) → Belongs ks x i
 
--- from the first knot to the last
+-- from the first knot to the last, of which there are two at least once 2 is asked
 abbrev pub WithinKnots : (ks : List ℤ) (x : ℤ) → Type 0
 WithinKnots ks x = Between (entry ks 0) x (entry ks (length ks - 1))
 
@@ -27,7 +28,8 @@ pub data HoldsAt (t : Table) (x : ℤ) : ℕ → ℕ → Type 0 where
 abbrev pub evaluationOrder : List ℕ
 evaluationOrder = 1 ∷ 2 ∷ 3 ∷ 4 ∷ 5 ∷ 6 ∷ []
 
--- What `locate` answers: the first cause of a refusal in this order, or none and the position's piece.
+-- What `locate` answers: the first cause of a refusal in this order, its place, and piece 0, which then says nothing; or 0 at place 0, and the position's
+-- piece.
 pub record Located (t : Table) (x : ℤ) (number place i : ℕ) : Type 0 where
   pub refusal : Given (HoldsAt t x) evaluationOrder number place
   pub piece : Answered (Belongs (t .knots) x) 0 number i

@@ -8,7 +8,7 @@ pub record CountWithin (n : ℕ) : Type 0 where
   pub low : 2 ≤ n
   pub high : n ≤ 1024
 
--- "h from 1 to 1,024"
+-- "h from 1 to 1,024, worked out without wrapping": h is an integer of any size
 abbrev pub WidthWithin : ℤ → Type 0
 WidthWithin h = Between (pos 1) h (pos 1024)
 

@@ -16,7 +16,8 @@ pub record Table : Type 0 where
 abbrev pub table : (knots values slopes : List ℤ) → Table
 table ks vs ss = record { knots = ks; values = vs; slopes = ss }
 
--- Entry i of a list. Where there is none it is 0, which no answer rests on: that the lists are equally long is asked first.
+-- Entry i of a list. Where there is none it is 0, which no answer rests on: that the lists are equally long (1) and have two points or more (2) is asked
+-- first.
 abbrev pub entry : List ℤ → ℕ → ℤ
 entry list i = getD list i (pos 0)
 
@@ -37,7 +38,7 @@ module _ (t : Table) where
   abbrev pub MonotoneAt : ℕ → Type 0
   MonotoneAt i = Monotone unit (step (t .knots) i) (step (t .values) i) (entry (t .slopes) i) (entry (t .slopes) (i + 1))
 
-  -- The table of "Refusal numbers": the cause with this number holds at this place.
+  -- Causes 1 to 5 of "Refusal numbers": the one with this number holds at this place. 3, 4 and 5 hold at each faulty piece; `Given` takes the first.
   pub data Holds : ℕ → ℕ → Type 0 where
     lengths-differ : (SameLengths → ⊥) → Holds 1 0
     too-few-or-many : (CountWithin points → ⊥) → Holds 2 0
