@@ -1,5 +1,5 @@
-// One line, taken as a command: which command it is, and the faults that any line can have. A command is a line in `other_command` and a function
-// that says whether what it had to answer could be written.
+// One line, taken as a command: which command it is, and the faults that any line can have. A command is a case of `Asked` and a function that says
+// whether what it had to answer could be written.
 use crate::answers;
 use crate::lists;
 use crate::lists::Lengths;
@@ -10,6 +10,16 @@ use crate::tables;
 
 // The longest line that is answered, without its ending.
 const LONGEST: usize = 65536;
+
+// What a word may ask for, beside the names of the lists.
+enum Asked {
+    Piece,
+    Show,
+    Build,
+    Check,
+    At,
+    Unknown,
+}
 
 // What a line leaves: how long the lists are then, and whether what it had to answer could be written.
 pub struct Answered {
@@ -96,20 +106,32 @@ fn other_command(
     values: &mut [i32],
     slopes: &mut [i32],
 ) -> bool {
-    if check::same(name, b"piece") {
-        return pieces::piece(line, from, number);
+    match named(name) {
+        Asked::Piece => pieces::piece(line, from, number),
+        Asked::Show => lists::show(line, from, number, knots, values, slopes),
+        Asked::Build => tables::build(line, from, number, knots, values, slopes),
+        Asked::Check => tables::check(line, from, number, knots, values, slopes),
+        Asked::At => tables::at(line, from, number, knots, values, slopes),
+        Asked::Unknown => answers::fault(number, b"no such command"),
     }
-    if check::same(name, b"show") {
-        return lists::show(line, from, number, knots, values, slopes);
+}
+
+// What a word asks for.
+fn named(word: &[u8]) -> Asked {
+    if check::same(word, b"piece") {
+        return Asked::Piece;
     }
-    if check::same(name, b"build") {
-        return tables::build(line, from, number, knots, values, slopes);
+    if check::same(word, b"show") {
+        return Asked::Show;
     }
-    if check::same(name, b"check") {
-        return tables::check(line, from, number, knots, values, slopes);
+    if check::same(word, b"build") {
+        return Asked::Build;
     }
-    if check::same(name, b"at") {
-        return tables::at(line, from, number, knots, values, slopes);
+    if check::same(word, b"check") {
+        return Asked::Check;
     }
-    answers::fault(number, b"no such command")
+    if check::same(word, b"at") {
+        return Asked::At;
+    }
+    Asked::Unknown
 }
