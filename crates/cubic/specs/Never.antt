@@ -8,7 +8,7 @@ use lib.Dec.{lit≤}
 use lib.IntN.{ℤ, pos, negsuc, negℤ, _+ℤ_, _-ℤ_, _*ℤ_}
 use lib.Signed.{_≤ℤ_, _<ℤ_, ltZ-yes}
 use Rattle.integers.specs.Linear.{lin, says}
-use Rattle.integers.specs.Order.{0≤-as, 0≤-number, 0≤-square, 0≤-gap, 0<-gap, 0≤-cancel, 0<-product, ≤ℤ-or-<ℤ, pos-≤, ≤-pos}
+use Rattle.integers.specs.Order.{0≤-as, 0≤-number, 0≤-square, 0≤-gap, 0<-gap, 0≤-cancel, 0<-product, 0<→1≤, ≤ℤ-or-<ℤ, pos-≤, ≤-pos}
 use Rattle.integers.specs.Within.{Within, within, within-high}
 use Rattle.cubic.specs.Piece.{slopeAt, NeverAgainst}
 use Rattle.cubic.specs.Slope.{at-start, at-end, at-turn, ellipse, steep, turn, fourfold, mirrored}
@@ -31,13 +31,10 @@ end-not-against {Z} {a} {b} f = 0≤-as (sym (at-end Z a b)) (f .at 1 1 (lit≤ 
 
 pub least-inside : {Z a b : ℤ} → NeverAgainst Z a b → pos 0 <ℤ steep Z a b → pos 0 ≤ℤ turn Z a b → turn Z a b ≤ℤ steep Z a b → ellipse Z a b ≤ℤ pos 0
 least-inside {Z} {a} {b} f s t₀ t₁ =
-    not-positive (0≤-cancel s (0≤-as (sym (at-turn Z a b)) (at-fraction f (turn Z a b) (steep Z a b) t₀ t₁ (one s))))
+    not-positive (0≤-cancel s (0≤-as (sym (at-turn Z a b)) (at-fraction f (turn Z a b) (steep Z a b) t₀ t₁ (0<→1≤ s))))
   where
     not-positive : {x : ℤ} → pos 0 ≤ℤ negℤ x → x ≤ℤ pos 0
     not-positive {x} = lin (x ∷ []) (search says depth 30 fits 9000) (omega arith)
-
-    one : {x : ℤ} → pos 0 <ℤ x → pos 1 ≤ℤ x
-    one {x} = lin (x ∷ []) (search says depth 30 fits 9000) (omega arith)
 
 -- so above the line a + b = 3Z
 pub inside-ellipse : {Z a b : ℤ} → NeverAgainst Z a b → (pos 3 *ℤ Z) <ℤ (a +ℤ b) → ellipse Z a b ≤ℤ pos 0

@@ -9,6 +9,7 @@ use mir.Syntax.{Width}
 use mir.Val.{SFits}
 use Rattle.integers.specs.Promise.{Between}
 use Rattle.integers.specs.Linear.{lin, says}
+use Rattle.integers.specs.Order.{0≤-gap}
 use Rattle.integers.specs.Within.{Within}
 use Rattle.integers.specs.Sizes.{between-fits}
 use Rattle.cubic.specs.Piece.{unit}
@@ -26,13 +27,10 @@ module _ {t : Table} (a : Accepted t) {x : ℤ} {i : ℕ} (b : Belongs (t .knots
   pub inside-piece : Between (pos 0) (x -ℤ entry (t .knots) i) (step (t .knots) i)
   inside-piece =
       record {
-        low = from-left (entry (t .knots) i) x (starts (a .limits) b);
+        low = 0≤-gap (starts (a .limits) b);
         high = to-right (entry (t .knots) i) (entry (t .knots) (i + 1)) x (ends b);
       }
     where
-      from-left : (l x : ℤ) → l ≤ℤ x → pos 0 ≤ℤ (x -ℤ l)
-      from-left l x = lin (l ∷ x ∷ []) (search says depth 30 fits 9000) (omega arith)
-
       to-right : (l r x : ℤ) → x ≤ℤ r → (x -ℤ l) ≤ℤ (r -ℤ l)
       to-right l r x = lin (l ∷ r ∷ x ∷ []) (search says depth 30 fits 9000) (omega arith)
 

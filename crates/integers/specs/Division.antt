@@ -52,6 +52,9 @@ rem-small (negsuc n) d h =
       <-from (negℤ (pos (suc n % d))) (pos d) (omega arith),
     )
 
+pub one-more : (q d : ℤ) → q *ℤ d +ℤ d ≡ (q +ℤ pos 1) *ℤ d
+one-more q d = ring (q ∷ d ∷ []) (search quote depth 30 fits 9000) tt
+
 pub floor-exact : (n : ℤ) (d : ℕ) → zero < d → pos 0 ≤ℤ remZ n (pos d) → Floor n (pos d) (quotZ n (pos d))
 floor-exact n d h r =
     let q = quotZ n (pos d) in
@@ -60,9 +63,6 @@ floor-exact n d h r =
   where
     sides : (x n r d : ℤ) → n ≡ x +ℤ r → pos 0 ≤ℤ r → r <ℤ d → (x ≤ℤ n) × (n <ℤ (x +ℤ d))
     sides x n r d = lin (x ∷ n ∷ r ∷ d ∷ []) (search says depth 30 fits 9000) (omega arith)
-
-    one-more : (q d : ℤ) → q *ℤ d +ℤ d ≡ (q +ℤ pos 1) *ℤ d
-    one-more q d = ring (q ∷ d ∷ []) (search quote depth 30 fits 9000) tt
 
 pub floor-less : (n : ℤ) (d : ℕ) → zero < d → remZ n (pos d) <ℤ pos 0 → Floor n (pos d) (quotZ n (pos d) -ℤ pos 1)
 floor-less n d h r =
@@ -193,7 +193,10 @@ pub 0≤-floor : {n : ℤ} (d : ℤ) → pos 0 ≤ℤ n → pos 0 ≤ℤ floorOf
 0≤-floor {n = pos n} (negsuc d) h = 0≤-number 0
 0≤-floor {n = negsuc n} d h = absurd (h .le)
 
+pub floor-of : (n : ℤ) {d : ℤ} → pos 0 <ℤ d → Floor n d (floorOf n d)
+floor-of n {d = pos zero} h = absurd (h .lt)
+floor-of n {d = pos (suc d)} h = floor-is n d
+floor-of n {d = negsuc d} h = absurd (h .lt)
+
 pub floor-low : (n : ℤ) {d : ℤ} → pos 0 <ℤ d → (floorOf n d *ℤ d) ≤ℤ n
-floor-low n {d = pos zero} h = absurd (h .lt)
-floor-low n {d = pos (suc d)} h = floor-is n d .low
-floor-low n {d = negsuc d} h = absurd (h .lt)
+floor-low n h = floor-of n h .low

@@ -105,7 +105,7 @@ less {x} {y} gap = lin (x ∷ y ∷ gap ∷ []) (search says depth 30 fits 9000)
 pub 0<→1≤ : {x : ℤ} → pos 0 <ℤ x → pos 1 ≤ℤ x
 0<→1≤ {x} = lin (x ∷ []) (search says depth 30 fits 9000) (omega arith)
 
-1≤→0< : {x : ℤ} → pos 1 ≤ℤ x → pos 0 <ℤ x
+pub 1≤→0< : {x : ℤ} → pos 1 ≤ℤ x → pos 0 <ℤ x
 1≤→0< {x} = lin (x ∷ []) (search says depth 30 fits 9000) (omega arith)
 
 pub 0<-product : {x y : ℤ} → pos 0 <ℤ x → pos 0 <ℤ y → pos 0 <ℤ (x *ℤ y)

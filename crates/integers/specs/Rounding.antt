@@ -2,31 +2,21 @@
 use mathlib.Core.Path.{_≡_, subst}
 use mathlib.Core.List.{[], _∷_}
 use native.Mathlib.Omega.{arith}
-use Prim.Native.Nat.{zero, suc}
-use lib.IntN.{ℤ, pos, negsuc, _+ℤ_, _*ℤ_}
+use lib.IntN.{ℤ, pos, _+ℤ_, _*ℤ_}
 use lib.Signed.{_≤ℤ_, _<ℤ_, ≤ℤ-refl}
 use Rattle.integers.specs.Promise.{Floor, floorOf}
-use Rattle.integers.specs.Ring.{ring, quote}
 use Rattle.integers.specs.Linear.{lin, says}
-use Rattle.integers.specs.Division.{floor-is, floor-mono, floor-unique}
+use Rattle.integers.specs.Division.{one-more, floor-of, floor-mono, floor-unique}
 
 pub record Rounding (round : ℤ → ℤ → ℤ) : Type 0 where
   pub exact : (q : ℤ) {d : ℤ} → pos 0 <ℤ d → round (q *ℤ d) d ≡ q
   pub mono : {m n d : ℤ} → pos 0 <ℤ d → m ≤ℤ n → round m d ≤ℤ round n d
 
-floor-of : (n : ℤ) {d : ℤ} → pos 0 <ℤ d → Floor n d (floorOf n d)
-floor-of n {d = pos zero} h = absurd (h .lt)
-floor-of n {d = pos (suc d)} h = floor-is n d
-floor-of n {d = negsuc d} h = absurd (h .lt)
-
 whole : (q d : ℤ) → pos 0 <ℤ d → Floor (q *ℤ d) d q
-whole q d h = record { low = ≤ℤ-refl (q *ℤ d); high = subst (λ (v : ℤ). (q *ℤ d) <ℤ v) (next q d) (above (q *ℤ d) d h) }
+whole q d h = record { low = ≤ℤ-refl (q *ℤ d); high = subst (λ (v : ℤ). (q *ℤ d) <ℤ v) (one-more q d) (above (q *ℤ d) d h) }
   where
     above : (x d : ℤ) → pos 0 <ℤ d → x <ℤ (x +ℤ d)
     above x d = lin (x ∷ d ∷ []) (search says depth 30 fits 9000) (omega arith)
-
-    next : (q d : ℤ) → q *ℤ d +ℤ d ≡ (q +ℤ pos 1) *ℤ d
-    next q d = ring (q ∷ d ∷ []) (search quote depth 30 fits 9000) tt
 
 pub rounding-down : Rounding floorOf
 rounding-down =

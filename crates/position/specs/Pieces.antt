@@ -9,6 +9,7 @@ use lib.Signed.{_≤ℤ_, _<ℤ_, clashℤ, ≤ℤ-refl}
 use lib.ListN.{length}
 use Rattle.integers.specs.Linear.{lin, says}
 use Rattle.integers.specs.Order.{≤ℤ-or-<ℤ, ≤ℤ-antisym, ≤ℤ-trans, <ℤ→≤ℤ}
+use Rattle.rules.specs.Order.{neither-less}
 use Rattle.table.specs.Table.{entry}
 use Rattle.table.specs.Accepted.{Points}
 use Rattle.position.specs.Position.{Belongs, inside, at-last-knot}
@@ -59,10 +60,7 @@ module _ {ks vs : List ℤ} (p : Points ks vs) where
       behind (at-last-knot e f) s k = absurd (omega (arith, e))
 
   pub one-piece : {x : ℤ} {i j : ℕ} → Belongs ks x i → Belongs ks x j → i ≡ j
-  one-piece {i = i} {j = j} b c = same (not-before b c) (not-before c b)
-    where
-      same : {i j : ℕ} → (i < j → ⊥) → (j < i → ⊥) → i ≡ j
-      same f g = omega arith
+  one-piece b c = neither-less (not-before b c) (not-before c b)
 
   -- "a position at an inner knot belongs to the piece that starts there", and so does one at the first
   pub knot-starts-its-piece : (k : ℕ) → k + 1 < length ks → Belongs ks (entry ks k) k

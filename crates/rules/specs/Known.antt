@@ -1,21 +1,15 @@
 -- The limits as sizes of values, for proofs about code.
-use mathlib.Core.List.{[], _∷_}
-use native.Mathlib.Omega.{arith}
 use lib.IntN.{ℤ, pos}
-use lib.Signed.{_≤ℤ_, _<ℤ_, leZ-yes}
+use lib.Signed.{_<ℤ_, leZ-yes}
 use Rattle.integers.specs.Promise.{Between}
-use Rattle.integers.specs.Linear.{lin, says}
-use Rattle.integers.specs.Order.{≤ℤ-trans}
+use Rattle.integers.specs.Order.{≤ℤ-trans, 1≤→0<}
 use Rattle.integers.specs.Within.{Within, within}
 use Rattle.integers.specs.Sizes.{Known, known}
 use Rattle.rules.specs.Limits.{WidthWithin, RiseWithin}
 
 -- a width is above 0, and how large a rise can be
 pub 0<-width : {h : ℤ} → WidthWithin h → pos 0 <ℤ h
-0<-width {h} w = one (w .low)
-  where
-    one : {h : ℤ} → pos 1 ≤ℤ h → pos 0 <ℤ h
-    one {h} = lin (h ∷ []) (search says depth 30 fits 9000) (omega arith)
+0<-width w = 1≤→0< (w .low)
 
 pub rise-size : {z : ℤ} → RiseWithin z → Within 1048576 z
 rise-size {z} r = within 1048576 z (r .low) (r .high)

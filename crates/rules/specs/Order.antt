@@ -7,14 +7,14 @@ use lib.IntN.{ℤ}
 use native.Mathlib.Omega.{arith}
 use Rattle.rules.specs.Refusals.{Given, done, refused, passed, afterwards, Answered, nothing, answered}
 
+pub neither-less : {p q : ℕ} → (p < q → ⊥) → (q < p → ⊥) → p ≡ q
+neither-less u v = omega arith
+
 module _ {H : ℕ → ℕ → Type 0} where
   -- two answers to one question are the same
   pub one-given : {order : List ℕ} {m n p q : ℕ} → Given H order m p → Given H order n q → (m ≡ n) × (p ≡ q)
   one-given done done = (refl, refl)
-  one-given (refused h e) (refused k f) = (refl, same (λ l. f _ l h) (λ l. e _ l k))
-    where
-      same : {p q : ℕ} → (p < q → ⊥) → (q < p → ⊥) → p ≡ q
-      same u v = omega arith
+  one-given (refused h e) (refused k f) = (refl, neither-less (λ l. f _ l h) (λ l. e _ l k))
   one-given (refused h e) (passed f g) = absurd (f _ h)
   one-given (passed f g) (refused h e) = absurd (f _ h)
   one-given (passed f g) (passed k l) = one-given g l
