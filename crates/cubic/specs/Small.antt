@@ -5,7 +5,7 @@ use Prim.Native.Nat.{ℕ, _*_, zero-le}
 use lib.IntN.{ℤ, pos, negℤ, _+ℤ_, _-ℤ_, _*ℤ_}
 use lib.Signed.{_<ℤ_}
 use Rattle.integers.specs.Ring.{ring, quote}
-use Rattle.integers.specs.Order.{0<-product, 0<-minus}
+use Rattle.integers.specs.Order.{0<-product, 0<-minus-product}
 use Rattle.integers.specs.Signs.{by-sign}
 use Rattle.integers.specs.Within.{Within, within-minus, minus-within}
 use Rattle.integers.specs.Arguments.{same₄}
@@ -32,14 +32,8 @@ over {M} {Z} {a} {b} s =
 pub monotone-small : {M : ℕ} {U h z m n : ℤ} → pos 0 <ℤ U → Monotone U h z m n → Within M (U *ℤ z) → SmallCoefficients M (U *ℤ z) (m *ℤ h) (n *ℤ h)
 monotone-small {M} {U} {h} {z} {m} {n} U₀ o w =
     by-sign z (λ p. small-coefficients (0<-product U₀ p) (o .rising p) w)
-    (λ p. over (small-coefficients (below p) (o .falling p) (within-minus (U *ℤ z) w)))
+    (λ p. over (small-coefficients (0<-minus-product U₀ p) (o .falling p) (within-minus (U *ℤ z) w)))
     (λ e. let l = level-numbers o e in same₄ (λ (Z a b _ : ℤ). SmallCoefficients M Z a b) {u = pos 0} {u' = pos 0} (sym (l .0)) (sym (l .1 .0)) (sym (l .1 .1)) refl none)
   where
-    below : z <ℤ pos 0 → pos 0 <ℤ negℤ (U *ℤ z)
-    below p = subst (λ (v : ℤ). pos 0 <ℤ v) (outside U z) (0<-product U₀ (0<-minus p))
-      where
-        outside : (U z : ℤ) → U *ℤ negℤ z ≡ negℤ (U *ℤ z)
-        outside U z = ring (U ∷ z ∷ []) (search quote depth 30 fits 9000) tt
-
     none : SmallCoefficients M (pos 0) (pos 0) (pos 0)
     none = record { third = record { size = zero-le }; second = record { size = zero-le }; start = record { size = zero-le }; end = record { size = zero-le } }

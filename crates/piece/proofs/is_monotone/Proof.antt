@@ -1,18 +1,16 @@
 -- `piece::is_monotone` meets its contract: each way through the code is one clause of the definition.
 use mathlib.Core.Path.{_≡_, sym, subst}
 use mathlib.Core.List.{List, [], _∷_}
-use native.Mathlib.Omega.{arith}
-use lib.IntN.{ℤ, pos, negℤ, _*ℤ_}
-use lib.Signed.{_<ℤ_}
+use lib.IntN.{ℤ, pos}
+use lib.Signed.{_<ℤ_, ltZ-yes}
 use mir.Syntax.{w32}
 use Rattle.integers.specs.Promise.{holds, fails}
 use Rattle.integers.specs.Decided.{decided-by, told, denied}
-use Rattle.integers.specs.Linear.{lin, says}
-use Rattle.integers.specs.Order.{≤ℤ-antisym}
+use Rattle.integers.specs.Order.{≤ℤ-antisym, 0<-product, 0<-minus-product}
 use Rattle.integers.specs.Sizes.{Known, held, fits, sized, plain-is, code}
 use Rattle.integers.specs.Tests.{tests, zeros, passed, failed, zero-yes, zero-no}
 use Rattle.integers.specs.Arguments.{plainly₃, as-coded₃, arguments}
-use Rattle.cubic.specs.Piece.{NeverAgainst}
+use Rattle.cubic.specs.Piece.{unit, NeverAgainst}
 use Rattle.cubic.specs.Monotone.{monotone-rising, monotone-falling, monotone-level}
 use Rattle.rules.specs.Known.{known-width, known-rise}
 use Rattle.piece.proofs.is_monotone.Statement.{statement}
@@ -47,24 +45,21 @@ mul-b c = fits (given c) (search code depth 30 fits 9000) tt
 up : (c : tie.Then1) → pos 0 <ℤ c .before .args .z
 up c = passed (given (c .before)) (c .if1 .taken) (search tests depth 30 fits 9000) tt
 
-never-against-requires : tie.Need-never-against-requires
-never-against-requires c κs =
-    let Γ = given (c .before) in
-    record {
-      up = subst (λ (v : ℤ). pos 0 <ℤ v) (sym (plain-is {Γ = Γ} (search code depth 30 fits 9000) tt)) (scaled (up c));
-      rise = sized Γ (search code depth 30 fits 9000) tt;
-      start = sized Γ (search code depth 30 fits 9000) tt;
-      end = sized Γ (search code depth 30 fits 9000) tt;
-    }
-  where
-    scaled : {z : ℤ} → pos 0 <ℤ z → pos 0 <ℤ (pos 256 *ℤ z)
-    scaled {z} = lin (z ∷ []) (search says depth 30 fits 9000) (omega arith)
-
 returns : tie.Need-returns
 returns c =
     let p = c .before in
     decided-by _ (λ e. monotone-rising (up p) (plainly₃ (given (p .before)) NeverAgainst (told (c .never-against .ensures) e) (search arguments depth 30 fits 9000) tt))
     (λ e m. denied (c .never-against .ensures) e (as-coded₃ (given (p .before)) NeverAgainst (search arguments depth 30 fits 9000) tt (m .rising (up p))))
+
+never-against-requires : tie.Need-never-against-requires
+never-against-requires c κs =
+    let Γ = given (c .before) in
+    record {
+      up = subst (λ (v : ℤ). pos 0 <ℤ v) (sym (plain-is {Γ = Γ} (search code depth 30 fits 9000) tt)) (0<-product {x = unit} (ltZ-yes tt) (up c));
+      rise = sized Γ (search code depth 30 fits 9000) tt;
+      start = sized Γ (search code depth 30 fits 9000) tt;
+      end = sized Γ (search code depth 30 fits 9000) tt;
+    }
 
 -- ---- a fall
 
@@ -80,25 +75,22 @@ sub-never-against-2 c = fits (given (c .before .before)) (search code depth 30 f
 sub-never-against-3 : tie.Need-sub-never-against-3
 sub-never-against-3 c = fits (given (c .before .before)) (search code depth 30 fits 9000) tt
 
-never-against-requires-2 : tie.Need-never-against-requires-2
-never-against-requires-2 c κs =
-    let Γ = given (c .before .before) in
-    record {
-      up = subst (λ (v : ℤ). pos 0 <ℤ v) (sym (plain-is {Γ = Γ} (search code depth 30 fits 9000) tt)) (scaled (down c));
-      rise = sized Γ (search code depth 30 fits 9000) tt;
-      start = sized Γ (search code depth 30 fits 9000) tt;
-      end = sized Γ (search code depth 30 fits 9000) tt;
-    }
-  where
-    scaled : {z : ℤ} → z <ℤ pos 0 → pos 0 <ℤ negℤ (pos 256 *ℤ z)
-    scaled {z} = lin (z ∷ []) (search says depth 30 fits 9000) (omega arith)
-
 returns-2 : tie.Need-returns-2
 returns-2 c =
     let p = c .before in
     let s = p .before .before in
     decided-by _ (λ e. monotone-falling (down p) (plainly₃ (given s) NeverAgainst (told (c .never-against2 .ensures) e) (search arguments depth 30 fits 9000) tt))
     (λ e m. denied (c .never-against2 .ensures) e (as-coded₃ (given s) NeverAgainst (search arguments depth 30 fits 9000) tt (m .falling (down p))))
+
+never-against-requires-2 : tie.Need-never-against-requires-2
+never-against-requires-2 c κs =
+    let Γ = given (c .before .before) in
+    record {
+      up = subst (λ (v : ℤ). pos 0 <ℤ v) (sym (plain-is {Γ = Γ} (search code depth 30 fits 9000) tt)) (0<-minus-product {x = unit} (ltZ-yes tt) (down c));
+      rise = sized Γ (search code depth 30 fits 9000) tt;
+      start = sized Γ (search code depth 30 fits 9000) tt;
+      end = sized Γ (search code depth 30 fits 9000) tt;
+    }
 
 -- ---- neither
 

@@ -66,6 +66,11 @@ sub-numerator-3 c = fits (given c) (search code depth 30 fits 9000) tt
 
 -- ---- the numerator
 
+is-cubic : (c : tie.After-numerator) → let s = c .before .args in c .numerator .result ≡ riseAt (unit *ℤ s .z) (s .m *ℤ s .h) (s .n *ℤ s .h) (s .t) (s .h)
+is-cubic c =
+    let s = c .before .args in
+    c .numerator .ensures ∙ plain-is {Γ = given (c .before)} (search code depth 30 fits 9000) tt ∙ sym (horner (unit *ℤ s .z) (s .m *ℤ s .h) (s .n *ℤ s .h) (s .t) (s .h))
+
 numerator-requires : tie.Need-numerator-requires
 numerator-requires c κs =
     let Γ = given c in
@@ -73,11 +78,6 @@ numerator-requires c κs =
       as-coded₃ Γ Small (search arguments depth 30 fits 9000) tt (record { one = small .start; two = small .second; three = small .third }),
       (as-coded₁ Γ WidthWithin (search arguments depth 30 fits 9000) tt (c .pre .0), as-coded₂ Γ (Between (pos 0)) (search arguments depth 30 fits 9000) tt (c .pre .1 .1 .1)),
     )
-
-is-cubic : (c : tie.After-numerator) → let s = c .before .args in c .numerator .result ≡ riseAt (unit *ℤ s .z) (s .m *ℤ s .h) (s .n *ℤ s .h) (s .t) (s .h)
-is-cubic c =
-    let s = c .before .args in
-    c .numerator .ensures ∙ plain-is {Γ = given (c .before)} (search code depth 30 fits 9000) tt ∙ sym (horner (unit *ℤ s .z) (s .m *ℤ s .h) (s .n *ℤ s .h) (s .t) (s .h))
 
 -- nowhere larger than at the right end, where it is Z·h³
 cubic-within : (c : tie.After-numerator) → Within 288230376151711744 (c .numerator .result)
