@@ -1,0 +1,5 @@
+pub mod Promise
+pub mod Signed
+pub mod Rounded
+pub mod Whole
+pub mod Exactly
