@@ -5,6 +5,7 @@ pub mod Never
 pub mod Test
 pub mod Monotone
 pub mod Rise
+pub mod Horner
 pub mod Value
 pub mod Along
 pub mod InOrder

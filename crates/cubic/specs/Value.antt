@@ -7,7 +7,14 @@ use Rattle.cubic.specs.Piece.{riseAt}
 abbrev pub rounded : (n d : ℤ) → ℤ
 rounded n d = floorOf n d
 
--- "the left value plus (a·t·h² + (3Z − 2a − b)·t²·h + (a + b − 2Z)·t³) / (256·h³)": that quotient, rounded. Here Z = U·z, a = m·h and b = n·h, with U the
--- slope unit.
+-- "(a·t·h² + (3Z − 2a − b)·t²·h + (a + b − 2Z)·t³) / (256·h³)": what stands above the line, t counts into a piece of width h, rise z and slopes m, n, and
+-- what stands below it. Here Z = U·z, a = m·h and b = n·h, with U the slope unit.
+abbrev pub numerator : (U h z m n t : ℤ) → ℤ
+numerator U h z m n t = riseAt (U *ℤ z) (m *ℤ h) (n *ℤ h) t h
+
+abbrev pub denominator : (U h : ℤ) → ℤ
+denominator U h = U *ℤ (h *ℤ h *ℤ h)
+
+-- what "the left value plus" adds: the quotient, rounded
 abbrev pub risen : (U h z m n t : ℤ) → ℤ
-risen U h z m n t = rounded (riseAt (U *ℤ z) (m *ℤ h) (n *ℤ h) t h) (U *ℤ (h *ℤ h *ℤ h))
+risen U h z m n t = rounded (numerator U h z m n t) (denominator U h)

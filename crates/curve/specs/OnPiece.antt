@@ -1,15 +1,11 @@
 -- The value on the piece that a position belongs to, in an accepted table.
-use mathlib.Core.List.{[], _∷_}
 use Prim.Native.Nat.{ℕ, _+_, _<_}
-use native.Mathlib.Omega.{arith}
 use lib.IntN.{ℤ, pos, _-ℤ_}
-use lib.Signed.{_≤ℤ_, ltZ-yes}
+use lib.Signed.{ltZ-yes}
 use lib.ListN.{length}
 use mir.Syntax.{Width}
 use mir.Val.{SFits}
 use Rattle.integers.specs.Promise.{Between}
-use Rattle.integers.specs.Linear.{lin, says}
-use Rattle.integers.specs.Order.{0≤-gap}
 use Rattle.integers.specs.Within.{Within}
 use Rattle.integers.specs.Sizes.{between-fits}
 use Rattle.cubic.specs.Piece.{unit}
@@ -19,29 +15,21 @@ use Rattle.rules.specs.Known.{0<-width, rise-size}
 use Rattle.table.specs.Table.{Table, entry, step}
 use Rattle.table.specs.Accepted.{Accepted}
 use Rattle.position.specs.Position.{Belongs}
-use Rattle.position.specs.Pieces.{within-list, starts, ends}
+use Rattle.position.specs.Pieces.{within-list, inside-piece}
 use Rattle.curve.specs.Curve.{risenOn, valueOn}
 
 module _ {t : Table} (a : Accepted t) {x : ℤ} {i : ℕ} (b : Belongs (t .knots) x i) where
-  -- how far into the piece the position lies
-  pub inside-piece : Between (pos 0) (x -ℤ entry (t .knots) i) (step (t .knots) i)
-  inside-piece =
-      record {
-        low = 0≤-gap (starts (a .limits) b);
-        high = to-right (entry (t .knots) i) (entry (t .knots) (i + 1)) x (ends b);
-      }
-    where
-      to-right : (l r x : ℤ) → x ≤ℤ r → (x -ℤ l) ≤ℤ (r -ℤ l)
-      to-right l r x = lin (l ∷ r ∷ x ∷ []) (search says depth 30 fits 9000) (omega arith)
+  inside : Between (pos 0) (x -ℤ entry (t .knots) i) (step (t .knots) i)
+  inside = inside-piece (a .limits) b
 
   within : i + 1 < length (t .knots)
   within = within-list b
 
   from-left : Along (step (t .values) i) (pos 0) (risenOn t i x)
-  from-left = risen-from-left {U = unit} (ltZ-yes tt) (0<-width (a .limits .widths i within)) (a .pieces i within) _ (inside-piece .low) (inside-piece .high)
+  from-left = risen-from-left {U = unit} (ltZ-yes tt) (0<-width (a .limits .widths i within)) (a .pieces i within) _ (inside .low) (inside .high)
 
   to-right : Along (step (t .values) i) (risenOn t i x) (step (t .values) i)
-  to-right = risen-to-right {U = unit} (ltZ-yes tt) (0<-width (a .limits .widths i within)) (a .pieces i within) _ (inside-piece .low) (inside-piece .high)
+  to-right = risen-to-right {U = unit} (ltZ-yes tt) (0<-width (a .limits .widths i within)) (a .pieces i within) _ (inside .low) (inside .high)
 
   -- what it has risen by is a part of the piece's rise
   pub risen-within : Within 1048576 (risenOn t i x)

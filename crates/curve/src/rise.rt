@@ -1,8 +1,9 @@
 // What the curve has risen by, t counts into a piece.
 ghost use mathlib.Core.Path.{_≡_};
-ghost use lib.IntN.{pos, _+ℤ_, _*ℤ_};
+ghost use lib.IntN.{pos};
 ghost use Rattle.integers.specs.Promise.{Between};
 ghost use Rattle.cubic.specs.Piece.{unit, Monotone};
+ghost use Rattle.cubic.specs.Horner.{byHorner};
 ghost use Rattle.cubic.specs.Value.{risen};
 ghost use Rattle.rules.specs.Limits.{WidthWithin, RiseWithin};
 ghost use Rattle.curve.specs.Sizes.{Small};
@@ -12,7 +13,7 @@ fn numerator(first: i64, second: i64, third: i64, t: i64, h: i64) -> i64
     requires { ⌜ Small first second third ⌝ }
     requires { ⌜ WidthWithin h ⌝ }
     requires { ⌜ Between (pos 0) t h ⌝ }
-    ensures { λ r. ⌜ r ≡ ((third *ℤ t +ℤ second *ℤ h) *ℤ t +ℤ first *ℤ (h *ℤ h)) *ℤ t ⌝ }
+    ensures { λ r. ⌜ r ≡ byHorner first second third t h ⌝ }
 {
     ((third * t + second * h) * t + first * (h * h)) * t
 }
@@ -25,9 +26,7 @@ pub(crate) fn risen(h: i64, z: i64, m: i32, n: i32, t: i64) -> i64
     requires { ⌜ Between (pos 0) t h ⌝ }
     ensures { λ r. ⌜ r ≡ risen unit h z m n t ⌝ }
 {
-    let rise = rules::UNIT * z;
-    let a = (m as i64) * h;
-    let b = (n as i64) * h;
-    let above = numerator(a, 3 * rise - 2 * a - b, a + b - 2 * rise, t, h);
+    let cubic = piece::coefficients(h, z, m, n);
+    let above = numerator(cubic.first, cubic.second, cubic.third, t, h);
     integers::floor_div(above, rules::UNIT * (h * h * h))
 }

@@ -1,7 +1,6 @@
 -- Which float a whole number is: the one that a cast gives, and no other. A zero is +0, all of whose bits are 0.
-use mathlib.Core.Path.{_≡_, refl, ap, _∙_}
-use Prim.Native.Nat.{ℕ, suc, _^_, _≤_}
-use native.Mathlib.Nat.{zero-lt-suc}
+use mathlib.Core.Path.{_≡_, refl, ap}
+use Prim.Native.Nat.{suc, _^_}
 use lib.Dec.{T, le→leb, lt→ltb}
 use lib.IntN.{ℤ, pos, negsuc, natAbs}
 use lib.Ieee.{Float, fin, Format, binary64, prec, ofInt, inFloat, fits, toBits}

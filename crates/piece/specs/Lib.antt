@@ -2,3 +2,4 @@ pub mod Promise
 pub mod Determined
 pub mod Leaning
 pub mod Sizes
+pub mod Cubic

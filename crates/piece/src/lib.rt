@@ -1,10 +1,11 @@
-// The verdict on one piece: rising, falling, flat or bends, or the refusal of a piece outside the limits.
+// The verdict on one piece: rising, falling, flat or bends, or the refusal of a piece outside the limits. And the cubic of a piece.
 ghost use Rattle.integers.specs.Promise.{Decided};
 ghost use Rattle.cubic.specs.Piece.{unit, NeverAgainst, Monotone};
 ghost use Rattle.cubic.specs.Slope.{Inside};
 ghost use Rattle.rules.specs.Limits.{WidthWithin, RiseWithin};
 ghost use Rattle.piece.specs.Promise.{Judged, answerOf};
 ghost use Rattle.piece.specs.Sizes.{Moderate, Low};
+ghost use Rattle.piece.specs.Cubic.{Coefficients};
 use rules::Refusal;
 
 // What is answered of one piece.
@@ -14,6 +15,13 @@ pub enum Verdict {
     Flat,
     Bends,
     Refused(Refusal),
+}
+
+// The cubic of a piece, first·t·h² + second·t²·h + third·t³, by its coefficients.
+pub struct Cubic {
+    pub first: i64,
+    pub second: i64,
+    pub third: i64,
 }
 
 // Fritsch and Carlson's last test, from what a and b have over 3Z. The callers' sizes leave room for both products.
@@ -100,4 +108,22 @@ pub fn judge(h: i64, z: i64, m: i32, n: i32) -> Verdict
         return Verdict::Falling;
     }
     Verdict::Flat
+}
+
+// The coefficients of a piece within the limits: a, 3Z − 2a − b and a + b − 2Z.
+pub fn coefficients(h: i64, z: i64, m: i32, n: i32) -> Cubic
+    requires { ⌜ WidthWithin h ⌝ }
+    requires { ⌜ RiseWithin z ⌝ }
+    ensures { λ r. ⌜ Coefficients unit h z m n (r .first) (r .second) (r .third) ⌝ }
+{
+    let rise = rules::UNIT * z;
+    let a = (m as i64) * h;
+    let b = (n as i64) * h;
+    let second = 3 * rise - 2 * a - b;
+    let third = a + b - 2 * rise;
+    Cubic {
+        first: a,
+        second,
+        third,
+    }
 }

@@ -7,10 +7,11 @@ use native.Mathlib.Omega.{arith}
 use lib.IntN.{ℤ, pos, _-ℤ_}
 use lib.Signed.{_≤ℤ_, _<ℤ_, clashℤ, ≤ℤ-refl}
 use lib.ListN.{length}
+use Rattle.integers.specs.Promise.{Between}
 use Rattle.integers.specs.Linear.{lin, says}
-use Rattle.integers.specs.Order.{≤ℤ-or-<ℤ, ≤ℤ-antisym, ≤ℤ-trans, <ℤ→≤ℤ}
+use Rattle.integers.specs.Order.{≤ℤ-or-<ℤ, ≤ℤ-antisym, ≤ℤ-trans, <ℤ→≤ℤ, 0≤-gap}
 use Rattle.rules.specs.Order.{neither-less}
-use Rattle.table.specs.Table.{entry}
+use Rattle.table.specs.Table.{entry, step}
 use Rattle.table.specs.Accepted.{Points}
 use Rattle.position.specs.Position.{Belongs, inside, at-last-knot}
 
@@ -50,6 +51,13 @@ module _ {ks vs : List ℤ} (p : Points ks vs) where
   pub starts : {x : ℤ} {i : ℕ} → Belongs ks x i → entry ks i ≤ℤ x
   starts (inside l a b) = a
   starts {i = i} (at-last-knot e f) = subst (λ (v : ℤ). entry ks i ≤ℤ v) (sym f) (<ℤ→≤ℤ (next i (omega (arith, e))))
+
+  -- and how far in, counted from its left knot
+  pub inside-piece : {x : ℤ} {i : ℕ} → Belongs ks x i → Between (pos 0) (x -ℤ entry ks i) (step ks i)
+  inside-piece {x} {i} b = record { low = 0≤-gap (starts b); high = to-right (entry ks i) (entry ks (i + 1)) x (ends b) }
+    where
+      to-right : (l r x : ℤ) → x ≤ℤ r → (x -ℤ l) ≤ℤ (r -ℤ l)
+      to-right l r x = lin (l ∷ r ∷ x ∷ []) (search says depth 30 fits 9000) (omega arith)
 
   -- no position belongs to two pieces
   not-before : {x : ℤ} {i j : ℕ} → Belongs ks x i → Belongs ks x j → i < j → ⊥

@@ -1,7 +1,8 @@
 -- "Numbers that bound everything" of the exact rules.
 use Prim.Native.Nat.{ℕ, _≤_}
-use lib.IntN.{ℤ, pos, negsuc}
-use Rattle.integers.specs.Promise.{Between}
+use lib.IntN.{ℤ, pos, negsuc, _*ℤ_}
+use lib.Signed.{_<ℤ_}
+use Rattle.integers.specs.Promise.{Between, magnitude}
 
 -- "2 to 1,024 points"
 pub record CountWithin (n : ℕ) : Type 0 where
@@ -15,3 +16,7 @@ WidthWithin h = Between (pos 1) h (pos 1024)
 -- "z from −1,048,576 to 1,048,576"
 abbrev pub RiseWithin : ℤ → Type 0
 RiseWithin z = Between (negsuc 1048575) z (pos 1048576)
+
+-- "refused by 8 exactly if |z|·h³ > 2^40"
+abbrev pub TooLarge : (h z : ℤ) → Type 0
+TooLarge h z = pos 1099511627776 <ℤ (magnitude z *ℤ (h *ℤ h *ℤ h))

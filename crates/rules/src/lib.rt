@@ -11,6 +11,9 @@ pub struct Refusal {
 // Slopes are in units of 1/256 of a value per count.
 pub const UNIT: i64 = 256;
 
+// A float answer is exact up to 2^40, for the size of a rise times its width cubed.
+pub const EXACT: i64 = 1099511627776;
+
 // None, done.
 pub const DONE: u32 = 0;
 // The lists' lengths differ.
@@ -25,6 +28,8 @@ pub const RISE: u32 = 4;
 pub const BEND: u32 = 5;
 // A position before the first or after the last knot.
 pub const POSITION: u32 = 6;
+// A piece too large for the exact float answer.
+pub const SIZE: u32 = 8;
 
 // Whether a number of points is in 2 to 1,024.
 pub fn count_within(n: usize) -> bool

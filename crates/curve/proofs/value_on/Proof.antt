@@ -17,9 +17,9 @@ use Rattle.cubic.specs.Piece.{unit, Monotone}
 use Rattle.cubic.specs.Value.{risen}
 use Rattle.rules.specs.Limits.{WidthWithin, RiseWithin}
 use Rattle.table.specs.Table.{Table, table, entry, step}
-use Rattle.position.specs.Pieces.{within-list}
+use Rattle.position.specs.Pieces.{within-list, inside-piece}
 use Rattle.curve.specs.Curve.{risenOn, valueOn}
-use Rattle.curve.specs.OnPiece.{inside-piece, risen-within, value-fits}
+use Rattle.curve.specs.OnPiece.{risen-within, value-fits}
 use Rattle.curve.proofs.value_on.Statement.{statement}
 use Rattle.curve.proofs.value_on.Tie as tie
 
@@ -119,7 +119,7 @@ risen-requires c κs =
         subst RiseWithin z (s .pre .0 .limits .rises (s .args .i) (in-knots s)),
         (
           same₄ (Monotone unit) h z (sym (slope (c .before))) (sym (next-slope c)) (s .pre .0 .pieces (s .args .i) (in-knots s)),
-          subst₂ (Between (pos 0)) (sym (place (c .before .before))) h (inside-piece (s .pre .0) (s .pre .1)),
+          subst₂ (Between (pos 0)) (sym (place (c .before .before))) h (inside-piece (s .pre .0 .limits) (s .pre .1)),
         ),
       ),
     )

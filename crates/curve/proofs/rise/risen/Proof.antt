@@ -2,19 +2,20 @@
 use mathlib.Core.Path.{_≡_, sym, _∙_, ap, subst}
 use mathlib.Core.List.{List, [], _∷_}
 use borrow.Author.Needs.{needs}
-use lib.IntN.{ℤ, pos, _*ℤ_}
+use lib.IntN.{ℤ, pos}
 use lib.Signed.{ltZ-yes}
 use mir.Syntax.{w32, w64}
 use Rattle.integers.specs.Promise.{Between, Quotient, floorOf}
 use Rattle.integers.specs.Within.{Within}
 use Rattle.integers.specs.Sizes.{Known, known, held, fits, sized, plain-is, code, returned}
-use Rattle.integers.specs.Arguments.{arguments, plainly₂, as-coded₁, as-coded₂, as-coded₃}
-use Rattle.cubic.specs.Piece.{unit, riseAt}
-use Rattle.cubic.specs.Rise.{horner}
+use Rattle.integers.specs.Arguments.{arguments, plainly₂, plainly₄, as-coded₁, as-coded₂, as-coded₃}
+use Rattle.cubic.specs.Piece.{unit}
+use Rattle.cubic.specs.Value.{numerator, denominator}
 use Rattle.cubic.specs.InOrder.{the-cubic-is-within}
 use Rattle.cubic.specs.Small.{monotone-small}
-use Rattle.rules.specs.Limits.{WidthWithin}
+use Rattle.rules.specs.Limits.{WidthWithin, RiseWithin}
 use Rattle.rules.specs.Known.{known-width, known-rise, known-inside}
+use Rattle.piece.specs.Cubic.{Coefficients, by-coefficients}
 use Rattle.curve.specs.Sizes.{Small}
 use Rattle.curve.proofs.rise.risen.Statement.{statement}
 use Rattle.curve.proofs.rise.risen.Tie as tie
@@ -28,102 +29,87 @@ given s =
     ∷ known-inside (s .args .t) (s .pre .0) (s .pre .1 .1 .1)
     ∷ []
 
-mul-rise : tie.Need-mul-rise
-mul-rise c = fits (given c) (search code depth 30 fits 9000) tt
+coefficients-requires : tie.Need-coefficients-requires
+coefficients-requires c κs = (
+  as-coded₁ (given c) WidthWithin (search arguments depth 30 fits 9000) tt (c .pre .0),
+  as-coded₁ (given c) RiseWithin (search arguments depth 30 fits 9000) tt (c .pre .1 .0),
+)
 
-cast-a : tie.Need-cast-a
-cast-a c = fits (given c) (search code depth 30 fits 9000) tt
+-- ---- the coefficients
 
-mul-a : tie.Need-mul-a
-mul-a c = fits (given c) (search code depth 30 fits 9000) tt
+module _ (c : tie.After-coefficients) where
+  abbrev s : tie.Start
+  s = c .before
 
-cast-b : tie.Need-cast-b
-cast-b c = fits (given c) (search code depth 30 fits 9000) tt
+  are : let r = c .coefficients .result in Coefficients unit (s .args .h) (s .args .z) (s .args .m) (s .args .n) (r .first) (r .second) (r .third)
+  are =
+      let r = c .coefficients .result in
+      plainly₄ (given s) (λ (h z m n : ℤ). Coefficients unit h z m n (r .first) (r .second) (r .third)) (c .coefficients .ensures) (search arguments depth 30 fits 9000) tt
 
-mul-b : tie.Need-mul-b
-mul-b c = fits (given c) (search code depth 30 fits 9000) tt
+  small : let r = c .coefficients .result in Small (r .first) (r .second) (r .third)
+  small =
+      let k = monotone-small {M = 268435456} {U = unit} (ltZ-yes tt) (s .pre .1 .1 .0) (sized (known-rise (s .args .z) (s .pre .1 .0) ∷ []) (search code depth 30 fits 9000) tt) in
+      record {
+        one = subst (Within _) (sym (are .first-is)) (k .start);
+        two = subst (Within _) (sym (are .second-is)) (k .second);
+        three = subst (Within _) (sym (are .third-is)) (k .third);
+      }
 
-mul-numerator : tie.Need-mul-numerator
-mul-numerator c = fits (given c) (search code depth 30 fits 9000) tt
-
-mul-numerator-2 : tie.Need-mul-numerator-2
-mul-numerator-2 c = fits (given c) (search code depth 30 fits 9000) tt
-
-sub-numerator : tie.Need-sub-numerator
-sub-numerator c = fits (given c) (search code depth 30 fits 9000) tt
-
-sub-numerator-2 : tie.Need-sub-numerator-2
-sub-numerator-2 c = fits (given c) (search code depth 30 fits 9000) tt
-
-add-numerator : tie.Need-add-numerator
-add-numerator c = fits (given c) (search code depth 30 fits 9000) tt
-
-mul-numerator-3 : tie.Need-mul-numerator-3
-mul-numerator-3 c = fits (given c) (search code depth 30 fits 9000) tt
-
-sub-numerator-3 : tie.Need-sub-numerator-3
-sub-numerator-3 c = fits (given c) (search code depth 30 fits 9000) tt
-
--- ---- the numerator
-
-is-cubic : (c : tie.After-numerator) → let s = c .before .args in c .numerator .result ≡ riseAt (unit *ℤ s .z) (s .m *ℤ s .h) (s .n *ℤ s .h) (s .t) (s .h)
-is-cubic c =
-    let s = c .before .args in
-    c .numerator .ensures ∙ plain-is {Γ = given (c .before)} (search code depth 30 fits 9000) tt ∙ sym (horner (unit *ℤ s .z) (s .m *ℤ s .h) (s .n *ℤ s .h) (s .t) (s .h))
+  abbrev with-cubic : List Known
+  with-cubic =
+      let r = c .coefficients .result in known (r .first) _ (small .one) ∷ known (r .second) _ (small .two) ∷ known (r .third) _ (small .three) ∷ given s
 
 numerator-requires : tie.Need-numerator-requires
 numerator-requires c κs =
-    let Γ = given c in
-    let small = monotone-small {M = 268435456} {U = unit} (ltZ-yes tt) (c .pre .1 .1 .0) (sized (known-rise (c .args .z) (c .pre .1 .0) ∷ []) (search code depth 30 fits 9000) tt) in (
-      as-coded₃ Γ Small (search arguments depth 30 fits 9000) tt (record { one = small .start; two = small .second; three = small .third }),
-      (as-coded₁ Γ WidthWithin (search arguments depth 30 fits 9000) tt (c .pre .0), as-coded₂ Γ (Between (pos 0)) (search arguments depth 30 fits 9000) tt (c .pre .1 .1 .1)),
+    let p = c .before .before .before in
+    let Γ = with-cubic p in (
+      as-coded₃ Γ Small (search arguments depth 30 fits 9000) tt (small p),
+      (
+        as-coded₁ Γ WidthWithin (search arguments depth 30 fits 9000) tt (p .before .pre .0),
+        as-coded₂ Γ (Between (pos 0)) (search arguments depth 30 fits 9000) tt (p .before .pre .1 .1 .1),
+      ),
     )
+
+-- ---- the numerator
+
+is-cubic : (c : tie.After-numerator) → let s = c .before .before .before .before .before .args in c .numerator .result ≡ numerator unit (s .h) (s .z) (s .m) (s .n) (s .t)
+is-cubic c =
+    let p = c .before .before .before .before in
+    c .numerator .ensures ∙ plain-is {Γ = with-cubic p} (search code depth 30 fits 9000) tt ∙ by-coefficients (are p) (p .before .args .t)
 
 -- nowhere larger than at the right end, where it is Z·h³
 cubic-within : (c : tie.After-numerator) → Within 288230376151711744 (c .numerator .result)
 cubic-within c =
-    let s = c .before in
+    let s = c .before .before .before .before .before in
     subst (Within _) (sym (is-cubic c))
     (the-cubic-is-within (s .pre .1 .1 .0) (s .args .t) (s .args .h) (s .pre .1 .1 .1 .low) (s .pre .1 .1 .1 .high) (s .pre .0 .low) (sized (given s) (search code depth 30 fits 9000) tt))
 
 -- ---- the denominator, and the quotient
 
 mul-floor-div : tie.Need-mul-floor-div
-mul-floor-div c = fits (given (c .before)) (search code depth 30 fits 9000) tt
+mul-floor-div c = fits (given (c .before .before .before .before .before)) (search code depth 30 fits 9000) tt
 
 mul-floor-div-2 : tie.Need-mul-floor-div-2
-mul-floor-div-2 c = fits (given (c .before)) (search code depth 30 fits 9000) tt
+mul-floor-div-2 c = fits (given (c .before .before .before .before .before)) (search code depth 30 fits 9000) tt
 
 mul-floor-div-3 : tie.Need-mul-floor-div-3
-mul-floor-div-3 c = fits (given (c .before)) (search code depth 30 fits 9000) tt
+mul-floor-div-3 c = fits (given (c .before .before .before .before .before)) (search code depth 30 fits 9000) tt
 
 floor-div-requires : tie.Need-floor-div-requires
 floor-div-requires c κs = search needs
 
 returns : tie.Need-returns
 returns c =
-    let s = c .before .before .args in
-    let d = unit *ℤ (s .h *ℤ s .h *ℤ s .h) in
+    let s = c .before .before .before .before .before .before in
     returned w64 (c .floor-div .ok)
-    (plainly₂ (known (c .before .numerator .result) _ (cubic-within (c .before)) ∷ given (c .before .before)) (λ (n d : ℤ). Quotient n d (c .floor-div .result)) (c .floor-div .ensures) (search arguments depth 30 fits 9000) tt .is
-    ∙ ap (λ (v : ℤ). floorOf v d) (is-cubic (c .before)))
+    (plainly₂ (known (c .before .numerator .result) _ (cubic-within (c .before)) ∷ given s) (λ (n d : ℤ). Quotient n d (c .floor-div .result)) (c .floor-div .ensures) (search arguments depth 30 fits 9000) tt .is
+    ∙ ap (λ (v : ℤ). floorOf v (denominator unit (s .args .h))) (is-cubic (c .before)))
 
 pub risen-spec : {M : Type 1} → statement M
 risen-spec =
     tie.close
     (tie.spec
-    mul-rise
-    cast-a
-    mul-a
-    cast-b
-    mul-b
-    mul-numerator
-    mul-numerator-2
-    sub-numerator
-    sub-numerator-2
-    add-numerator
-    mul-numerator-3
-    sub-numerator-3
+    coefficients-requires
     numerator-requires
     mul-floor-div
     mul-floor-div-2
