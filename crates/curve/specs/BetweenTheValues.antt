@@ -8,6 +8,7 @@ use Rattle.table.specs.Table.{Table, entry}
 use Rattle.position.specs.Position.{Belongs}
 use Rattle.position.specs.Pieces.{one-piece}
 use Rattle.position.specs.Refused.{accepted-at}
+use Rattle.position.specs.Spot.{inside-accepted}
 use Rattle.curve.specs.Curve.{Evaluated}
 use Rattle.curve.specs.OnPiece.{value-amid}
 
@@ -16,4 +17,4 @@ the-answer-lies-between-the-pieces-two-values {t} {x} {v} {i = i} e b =
     let accepted = accepted-at refl (e .refusal) in
     let at = answer-right refl (e .value) in
     subst (λ (j : ℕ). Amid (entry (t .values) j) v (entry (t .values) (j + 1))) (one-piece (accepted .limits) (at .belongs) b)
-    (subst (λ (w : ℤ). Amid (entry (t .values) (at .piece)) w (entry (t .values) (at .piece + 1))) (sym (at .is)) (value-amid accepted (at .belongs)))
+    (subst (λ (w : ℤ). Amid (entry (t .values) (at .piece)) w (entry (t .values) (at .piece + 1))) (sym (at .is)) (value-amid (inside-accepted accepted (at .belongs)) refl))

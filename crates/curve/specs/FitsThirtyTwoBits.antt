@@ -1,5 +1,5 @@
 -- On an accepted table of 32-bit values the value at any position fits 32 bits.
-use mathlib.Core.Path.{sym, subst}
+use mathlib.Core.Path.{refl, sym, subst}
 use Prim.Native.Nat.{ℕ, _+_, _<_}
 use native.Mathlib.Omega.{arith}
 use lib.IntN.{ℤ}
@@ -9,6 +9,7 @@ use mir.Val.{SFits}
 use Rattle.table.specs.Table.{Table, entry}
 use Rattle.table.specs.Accepted.{Accepted}
 use Rattle.position.specs.Pieces.{within-list}
+use Rattle.position.specs.Spot.{inside-accepted}
 use Rattle.curve.specs.Curve.{ValueAt}
 use Rattle.curve.specs.OnPiece.{value-fits}
 
@@ -16,4 +17,4 @@ pub on-an-accepted-table-the-value-fits-32-bits : {t : Table} {x v : ℤ} → Ac
 on-an-accepted-table-the-value-fits-32-bits {t} a f at =
     let l = within-list (at .belongs) in
     subst (λ (v : ℤ). SFits w32 v) (sym (at .is))
-    (value-fits a (at .belongs) w32 (f (at .piece) (omega (arith, a .limits .lengths))) (f (at .piece + 1) (omega (arith, a .limits .lengths))))
+    (value-fits (inside-accepted a (at .belongs)) w32 refl (f (at .piece) (omega (arith, a .limits .lengths))) (f (at .piece + 1) (omega (arith, a .limits .lengths))))

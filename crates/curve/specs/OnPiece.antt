@@ -1,48 +1,37 @@
--- The value on the piece that a position belongs to, in an accepted table.
-use Prim.Native.Nat.{ℕ, _+_, _<_}
-use lib.IntN.{ℤ, pos, _-ℤ_}
+-- The value in a piece that an accepted table has.
+use mathlib.Core.Path.{_≡_, subst}
+use lib.IntN.{ℤ, pos, _+ℤ_, _-ℤ_}
 use lib.Signed.{ltZ-yes}
-use lib.ListN.{length}
 use mir.Syntax.{Width}
 use mir.Val.{SFits}
-use Rattle.integers.specs.Promise.{Between}
 use Rattle.integers.specs.Within.{Within}
 use Rattle.integers.specs.Sizes.{between-fits}
 use Rattle.cubic.specs.Piece.{unit}
+use Rattle.cubic.specs.Value.{risen}
 use Rattle.cubic.specs.Along.{Along, Amid, upwards, downwards, amid, part-within}
 use Rattle.cubic.specs.InOrder.{risen-from-left, risen-to-right}
 use Rattle.rules.specs.Known.{0<-width, rise-size}
-use Rattle.table.specs.Table.{Table, entry, step}
-use Rattle.table.specs.Accepted.{Accepted}
-use Rattle.position.specs.Position.{Belongs}
-use Rattle.position.specs.Pieces.{within-list, inside-piece}
-use Rattle.curve.specs.Curve.{risenOn, valueOn}
+use Rattle.position.specs.Spot.{Inside}
 
-module _ {t : Table} (a : Accepted t) {x : ℤ} {i : ℕ} (b : Belongs (t .knots) x i) where
-  inside : Between (pos 0) (x -ℤ entry (t .knots) i) (step (t .knots) i)
-  inside = inside-piece (a .limits) b
+module _ {h z m n t : ℤ} (o : Inside h z m n t) where
+  from-left : Along z (pos 0) (risen unit h z m n t)
+  from-left = risen-from-left {U = unit} (ltZ-yes tt) (0<-width (o .width)) (o .monotone) t (o .place .low) (o .place .high)
 
-  within : i + 1 < length (t .knots)
-  within = within-list b
-
-  from-left : Along (step (t .values) i) (pos 0) (risenOn t i x)
-  from-left = risen-from-left {U = unit} (ltZ-yes tt) (0<-width (a .limits .widths i within)) (a .pieces i within) _ (inside .low) (inside .high)
-
-  to-right : Along (step (t .values) i) (risenOn t i x) (step (t .values) i)
-  to-right = risen-to-right {U = unit} (ltZ-yes tt) (0<-width (a .limits .widths i within)) (a .pieces i within) _ (inside .low) (inside .high)
+  to-right : Along z (risen unit h z m n t) z
+  to-right = risen-to-right {U = unit} (ltZ-yes tt) (0<-width (o .width)) (o .monotone) t (o .place .low) (o .place .high)
 
   -- what it has risen by is a part of the piece's rise
-  pub risen-within : Within 1048576 (risenOn t i x)
-  risen-within = part-within (rise-size (a .limits .rises i within)) from-left to-right
+  pub risen-within : Within 1048576 (risen unit h z m n t)
+  risen-within = part-within (rise-size (o .rise)) from-left to-right
 
   -- the value lies between the piece's two values
-  pub value-amid : Amid (entry (t .values) i) (valueOn t i x) (entry (t .values) (i + 1))
-  value-amid = amid from-left to-right
+  pub value-amid : {left right : ℤ} → z ≡ right -ℤ left → Amid left (left +ℤ risen unit h z m n t) right
+  value-amid {left} {right} e = amid (subst (λ (v : ℤ). Along v (pos 0) (risen unit h z m n t)) e from-left) (subst (λ (v : ℤ). Along v (risen unit h z m n t) v) e to-right)
 
   -- so that it fits where they do
-  pub value-fits : (w : Width) → SFits w (entry (t .values) i) → SFits w (entry (t .values) (i + 1)) → SFits w (valueOn t i x)
-  value-fits w l r = either value-amid
+  pub value-fits : (w : Width) {left right : ℤ} → z ≡ right -ℤ left → SFits w left → SFits w right → SFits w (left +ℤ risen unit h z m n t)
+  value-fits w {left} {right} e l r = either (value-amid e)
     where
-      either : Amid (entry (t .values) i) (valueOn t i x) (entry (t .values) (i + 1)) → SFits w (valueOn t i x)
+      either : Amid left (left +ℤ risen unit h z m n t) right → SFits w (left +ℤ risen unit h z m n t)
       either (upwards b) = between-fits w b l r
       either (downwards b) = between-fits w b r l

@@ -1,12 +1,17 @@
 // The value of a table's curve at a position.
 ghost use mathlib.Core.Path.{_≡_};
+ghost use lib.IntN.{_+ℤ_};
+ghost use mir.Syntax.{w32};
+ghost use mir.Val.{SFits};
+ghost use Rattle.cubic.specs.Piece.{unit};
+ghost use Rattle.cubic.specs.Value.{risen};
 ghost use Rattle.table.specs.Table.{table};
-ghost use Rattle.table.specs.Accepted.{Accepted};
-ghost use Rattle.position.specs.Position.{Belongs};
-ghost use Rattle.curve.specs.Curve.{valueOn, Evaluated};
+ghost use Rattle.position.specs.Spot.{Inside};
+ghost use Rattle.curve.specs.Curve.{Evaluated};
 
 mod rise;
 
+use position::Spot;
 use rules::Refusal;
 
 // The value at a position, or the refusal and the value 0.
@@ -15,18 +20,14 @@ pub struct Value {
     pub value: i32,
 }
 
-// The value at a position of piece i: the left value, and what the curve has risen by since. It lies between the piece's two values, so that it fits.
-fn value_on(knots: &[i32], values: &[i32], slopes: &[i32], i: usize, position: i32) -> i32
-    requires { ⌜ Accepted (table (now knots) (now values) (now slopes)) ⌝ }
-    requires { ⌜ Belongs (now knots) position i ⌝ }
-    ensures { λ r. ⌜ r ≡ valueOn (table (now (knots .entry)) (now (values .entry)) (now (slopes .entry))) i position ⌝ }
+// The value in a piece: the left value, and what the curve has risen by since. It lies between the piece's two values, so that it fits.
+fn value_on(s: Spot) -> i32
+    requires { ⌜ Inside (s .h) (s .z) (s .m) (s .n) (s .t) ⌝ }
+    requires { ⌜ SFits w32 (s .left +ℤ s .z) ⌝ }
+    ensures { λ r. ⌜ r ≡ s .left +ℤ risen unit (s .h) (s .z) (s .m) (s .n) (s .t) ⌝ }
 {
-    let left = values[i];
-    let h = table::step(knots, i);
-    let z = integers::difference(left, values[i + 1]);
-    let t = integers::difference(knots[i], position);
-    let risen = rise::risen(h, z, slopes[i], slopes[i + 1], t);
-    ((left as i64) + risen) as i32
+    let risen = rise::risen(s.h, s.z, s.m, s.n, s.t);
+    ((s.left as i64) + risen) as i32
 }
 
 // The value of the curve at a position, rounded down, or the refusal, in the order 1, 2, 3, 4, 5, 6: the whole table is checked first, whatever
@@ -39,6 +40,7 @@ pub fn evaluate(knots: &[i32], values: &[i32], slopes: &[i32], position: i32) ->
     if refusal.number != rules::DONE {
         return Value { refusal, value: 0 };
     }
-    let value = value_on(knots, values, slopes, place.piece, position);
+    let spot = position::spot_on(knots, values, slopes, place.piece, position);
+    let value = value_on(spot);
     Value { refusal, value }
 }

@@ -3,7 +3,8 @@ use mathlib.Core.Path.{_≡_, refl, ap}
 use Prim.Native.Nat.{suc, _^_}
 use lib.Dec.{T, le→leb, lt→ltb}
 use lib.IntN.{ℤ, pos, negsuc, natAbs}
-use lib.Ieee.{Float, fin, Format, binary64, prec, ofInt, inFloat, fits, toBits}
+use lib.Ieee.{Float, fin, Format, binary64, prec, ofInt, inFloat, fits, ofBits, toBits}
+use lib.Ieee.Bits.{ofBits-fits}
 use lib.Ieee.Back.{round-whole, whole-unique}
 use lib.Ieee.Fits.{ofInt-fits}
 use mathlib.Core.Bool.{true, false}
@@ -34,3 +35,8 @@ plus-zero f = record { held = tt; value = (refl, refl) }
 pub a-zero-has-no-bit-set : {x : Float} → Exactly binary64 (pos 0) x → toBits binary64 x ≡ 0
 unfolding toBits
 a-zero-has-no-bit-set v = ap (toBits binary64) (one-float v (plus-zero binary64))
+
+-- as code has it: `0.0`
+pub zero-in-code : Exactly binary64 (pos 0) (ofBits binary64 0)
+unfolding ofBits
+zero-in-code = record { held = ofBits-fits binary64 0; value = (refl, refl) }

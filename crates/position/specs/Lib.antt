@@ -2,3 +2,4 @@ pub mod Position
 pub mod Pieces
 pub mod Refused
 pub mod Determined
+pub mod Spot

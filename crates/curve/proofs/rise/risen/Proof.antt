@@ -22,17 +22,17 @@ use Rattle.curve.proofs.rise.risen.Tie as tie
 
 abbrev given : tie.Start → List Known
 given s =
-    known-width (s .args .h) (s .pre .0)
-    ∷ known-rise (s .args .z) (s .pre .1 .0)
+    known-width (s .args .h) (s .pre .width)
+    ∷ known-rise (s .args .z) (s .pre .rise)
     ∷ held w32 (s .args .m) (s .fits .m)
     ∷ held w32 (s .args .n) (s .fits .n)
-    ∷ known-inside (s .args .t) (s .pre .0) (s .pre .1 .1 .1)
+    ∷ known-inside (s .args .t) (s .pre .width) (s .pre .place)
     ∷ []
 
 coefficients-requires : tie.Need-coefficients-requires
 coefficients-requires c κs = (
-  as-coded₁ (given c) WidthWithin (search arguments depth 30 fits 9000) tt (c .pre .0),
-  as-coded₁ (given c) RiseWithin (search arguments depth 30 fits 9000) tt (c .pre .1 .0),
+  as-coded₁ (given c) WidthWithin (search arguments depth 30 fits 9000) tt (c .pre .width),
+  as-coded₁ (given c) RiseWithin (search arguments depth 30 fits 9000) tt (c .pre .rise),
 )
 
 -- ---- the coefficients
@@ -48,7 +48,7 @@ module _ (c : tie.After-coefficients) where
 
   small : let r = c .coefficients .result in Small (r .first) (r .second) (r .third)
   small =
-      let k = monotone-small {M = 268435456} {U = unit} (ltZ-yes tt) (s .pre .1 .1 .0) (sized (known-rise (s .args .z) (s .pre .1 .0) ∷ []) (search code depth 30 fits 9000) tt) in
+      let k = monotone-small {M = 268435456} {U = unit} (ltZ-yes tt) (s .pre .monotone) (sized (known-rise (s .args .z) (s .pre .rise) ∷ []) (search code depth 30 fits 9000) tt) in
       record {
         one = subst (Within _) (sym (are .first-is)) (k .start);
         two = subst (Within _) (sym (are .second-is)) (k .second);
@@ -65,8 +65,8 @@ numerator-requires c κs =
     let Γ = with-cubic p in (
       as-coded₃ Γ Small (search arguments depth 30 fits 9000) tt (small p),
       (
-        as-coded₁ Γ WidthWithin (search arguments depth 30 fits 9000) tt (p .before .pre .0),
-        as-coded₂ Γ (Between (pos 0)) (search arguments depth 30 fits 9000) tt (p .before .pre .1 .1 .1),
+        as-coded₁ Γ WidthWithin (search arguments depth 30 fits 9000) tt (p .before .pre .width),
+        as-coded₂ Γ (Between (pos 0)) (search arguments depth 30 fits 9000) tt (p .before .pre .place),
       ),
     )
 
@@ -82,7 +82,7 @@ cubic-within : (c : tie.After-numerator) → Within 288230376151711744 (c .numer
 cubic-within c =
     let s = c .before .before .before .before .before in
     subst (Within _) (sym (is-cubic c))
-    (the-cubic-is-within (s .pre .1 .1 .0) (s .args .t) (s .args .h) (s .pre .1 .1 .1 .low) (s .pre .1 .1 .1 .high) (s .pre .0 .low) (sized (given s) (search code depth 30 fits 9000) tt))
+    (the-cubic-is-within (s .pre .monotone) (s .args .t) (s .args .h) (s .pre .place .low) (s .pre .place .high) (s .pre .width .low) (sized (given s) (search code depth 30 fits 9000) tt))
 
 -- ---- the denominator, and the quotient
 

@@ -1,0 +1,71 @@
+-- A position in the piece that it belongs to, by the numbers that the exact rules take of it.
+use mathlib.Core.Path.{_≡_, sym, subst, subst₂}
+use Prim.Native.Nat.{ℕ, _+_}
+use lib.IntN.{ℤ, pos, _+ℤ_, _-ℤ_}
+use mir.Syntax.{w32, w64}
+use mir.Val.{SFits, toZ, ofZ}
+use mir.Facts.{toZ-ofZ}
+use Rattle.integers.specs.Promise.{Between}
+use Rattle.integers.specs.Arguments.{same₄}
+use Rattle.cubic.specs.Piece.{unit, Monotone}
+use Rattle.rules.specs.Limits.{WidthWithin, RiseWithin}
+use Rattle.table.specs.Table.{Table, entry, step}
+use Rattle.table.specs.Accepted.{Accepted}
+use Rattle.position.specs.Position.{Belongs}
+use Rattle.position.specs.Pieces.{within-list, inside-piece}
+
+-- "width h = right knot − left knot", "rise z = right value − left value", "m, n = left and right slope", "t = position − left knot"; the right value is an
+-- entry of 32 bits as the left one is
+pub record SpotOn (tab : Table) (i : ℕ) (x left h z m n t : ℤ) : Type 0 where
+  pub left-is : left ≡ entry (tab .values) i
+  pub h-is : h ≡ step (tab .knots) i
+  pub z-is : z ≡ step (tab .values) i
+  pub m-is : m ≡ entry (tab .slopes) i
+  pub n-is : n ≡ entry (tab .slopes) (i + 1)
+  pub t-is : t ≡ x -ℤ entry (tab .knots) i
+  pub right-fits : SFits w32 (left +ℤ z)
+
+-- what is said of a spot's numbers is said of the table's
+pub of-spot : {tab : Table} {i : ℕ} {x left h z m n t : ℤ} (R : ℤ → ℤ → ℤ → ℤ → ℤ → ℤ → Type 0) → SpotOn tab i x left h z m n t → R left h z m n t
+    → R (entry (tab .values) i) (step (tab .knots) i) (step (tab .values) i) (entry (tab .slopes) i) (entry (tab .slopes) (i + 1)) (x -ℤ entry (tab .knots) i)
+of-spot {tab} {i} {x} {h = h} {z} {m} {n} R s r =
+    same₄ (λ (h z m n : ℤ). R (entry (tab .values) i) h z m n (x -ℤ entry (tab .knots) i)) (s .h-is) (s .z-is) (s .m-is) (s .n-is)
+    (subst₂ (λ (left t : ℤ). R left h z m n t) (s .left-is) (s .t-is) r)
+
+-- a piece as an accepted table has it, and a count in it
+pub record Inside (h z m n t : ℤ) : Type 0 where
+  pub width : WidthWithin h
+  pub rise : RiseWithin z
+  pub monotone : Monotone unit h z m n
+  pub place : Between (pos 0) t h
+
+pub inside-accepted : {tab : Table} {i : ℕ} {x : ℤ} → Accepted tab → Belongs (tab .knots) x i
+    → Inside (step (tab .knots) i) (step (tab .values) i) (entry (tab .slopes) i) (entry (tab .slopes) (i + 1)) (x -ℤ entry (tab .knots) i)
+inside-accepted {i = i} a b =
+    let l = within-list b in record { width = a .limits .widths i l; rise = a .limits .rises i l; monotone = a .pieces i l; place = inside-piece (a .limits) b }
+
+pub inside-spot : {tab : Table} {i : ℕ} {x left h z m n t : ℤ} → Accepted tab → Belongs (tab .knots) x i → SpotOn tab i x left h z m n t → Inside h z m n t
+inside-spot {t = t} a b s =
+    same₄ (λ (h z m n : ℤ). Inside h z m n t) (sym (s .h-is)) (sym (s .z-is)) (sym (s .m-is)) (sym (s .n-is))
+    (subst (Inside _ _ _ _) (sym (s .t-is)) (inside-accepted a b))
+
+-- of a spot's numbers as code has them, behind their bits
+pub record Held (left h z m n t : ℤ) : Type 0 where
+  pub left-fits : SFits w32 left
+  pub h-fits : SFits w64 h
+  pub z-fits : SFits w64 z
+  pub m-fits : SFits w32 m
+  pub n-fits : SFits w32 n
+  pub t-fits : SFits w64 t
+
+pub as-held : {left h z m n t : ℤ} (R : ℤ → ℤ → ℤ → ℤ → ℤ → Type 0) → Held left h z m n t → R h z m n t
+    → R (toZ w64 (ofZ w64 h)) (toZ w64 (ofZ w64 z)) (toZ w32 (ofZ w32 m)) (toZ w32 (ofZ w32 n)) (toZ w64 (ofZ w64 t))
+as-held {t = t} R f r =
+    same₄ (λ (h z m n : ℤ). R h z m n (toZ w64 (ofZ w64 t))) (sym (toZ-ofZ (f .h-fits))) (sym (toZ-ofZ (f .z-fits))) (sym (toZ-ofZ (f .m-fits))) (sym (toZ-ofZ (f .n-fits)))
+    (subst (R _ _ _ _) (sym (toZ-ofZ (f .t-fits))) r)
+
+pub of-held : {left h z m n t : ℤ} (R : ℤ → ℤ → ℤ → ℤ → ℤ → Type 0) → Held left h z m n t
+    → R (toZ w64 (ofZ w64 h)) (toZ w64 (ofZ w64 z)) (toZ w32 (ofZ w32 m)) (toZ w32 (ofZ w32 n)) (toZ w64 (ofZ w64 t)) → R h z m n t
+of-held {t = t} R f r =
+    same₄ (λ (h z m n : ℤ). R h z m n t) (toZ-ofZ (f .h-fits)) (toZ-ofZ (f .z-fits)) (toZ-ofZ (f .m-fits)) (toZ-ofZ (f .n-fits))
+    (subst (R _ _ _ _) (toZ-ofZ (f .t-fits)) r)
