@@ -3,7 +3,7 @@ use mathlib.Core.Path.{_≡_, subst}
 use mathlib.Core.List.{[], _∷_}
 use Prim.Native.Nat.{ℕ, _+_, _*_, _≤_}
 use native.Mathlib.Omega.{arith}
-use native.Mathlib.Nat.{one-mul, mul-le-mul-left, mul-le-mul-right}
+use native.Mathlib.Nat.{mul-one, mul-le-mul-left}
 use lib.IntN.{ℤ, pos, negℤ, _+ℤ_, _-ℤ_, _*ℤ_}
 use lib.Signed.{_≤ℤ_}
 use Rattle.integers.specs.Ring.{ring, quote}
@@ -34,14 +34,10 @@ pub record HornerWithin (N : ℕ) (first second third t h : ℤ) : Type 0 where
   pub lower : Within N ((third *ℤ t +ℤ second *ℤ h) *ℤ t +ℤ first *ℤ (h *ℤ h))
   pub last : Within N (byHorner first second third t h)
 
--- the factors that each step lacks are 1 at least
-more : {a c : ℕ} → 1 ≤ c → a ≤ c * a
-more {a} {c} h = subst (λ (x : ℕ). x ≤ c * a) (one-mul a) (mul-le-mul-right a h)
-
--- 19·M·H³ bounds them all, for a rise within M over a width within H
-pub horner-within : {M H N : ℕ} {Z a b t h : ℤ} → SmallCoefficients M Z a b → pos 0 ≤ℤ t → t ≤ℤ h → Within H h → 1 ≤ M → 1 ≤ H → 19 * (M * (H * (H * H))) ≤ N
+-- 19·M·H³ bounds them all, and H² the width alone, for a rise within M over a width within H
+pub horner-within : {M H N : ℕ} {Z a b t h : ℤ} → SmallCoefficients M Z a b → pos 0 ≤ℤ t → t ≤ℤ h → Within H h → 1 ≤ H → H * H ≤ N → 19 * (M * (H * (H * H))) ≤ N
     → HornerWithin N a (pos 3 *ℤ Z -ℤ pos 2 *ℤ a -ℤ b) (a +ℤ b -ℤ pos 2 *ℤ Z) t h
-horner-within {M} {H} {N} {Z} {a} {b} {t} {h} s t₀ t₁ hH M₁ H₁ n =
+horner-within {M} {H} {N} {Z} {a} {b} {t} {h} s t₀ t₁ hH H₁ w n =
     let u = ends t h H t₀ t₁ (within-high hH) in
     let tH = within H t (u .0) (u .1) in
     let c1 = within-product (s .third) tH in
@@ -52,12 +48,11 @@ horner-within {M} {H} {N} {Z} {a} {b} {t} {h} s t₀ t₁ hH M₁ H₁ n =
     let c6 = within-product (s .start) c5 in
     let c7 = within-plus c4 c6 in
     let c8 = within-product c7 tH in
-    let HH : H ≤ H * H = more {c = H} H₁ in
-    let HHH : H * H ≤ H * (H * H) = mul-le-mul-left H HH in
-    let MHHH : H * (H * H) ≤ M * (H * (H * H)) = more {c = M} M₁ in
+    let HH : H * 1 ≤ H * H = mul-le-mul-left H H₁ in
+    let HHH : H * H ≤ H * (H * H) = mul-le-mul-left H (subst (λ (x : ℕ). x ≤ H * H) (mul-one H) HH) in
     let MH : M * 1 ≤ M * H = mul-le-mul-left M H₁ in
-    let MHH : M * H ≤ M * (H * H) = mul-le-mul-left M HH in
-    let MHHHH : M * (H * H) ≤ M * (H * (H * H)) = mul-le-mul-left M HHH in
+    let MHH : M * (H * 1) ≤ M * (H * H) = mul-le-mul-left M HH in
+    let MHHH : M * (H * H) ≤ M * (H * (H * H)) = mul-le-mul-left M HHH in
     record {
       one = record { size = omega (arith, s .start .size) };
       two = record { size = omega (arith, s .second .size) };

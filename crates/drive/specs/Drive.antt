@@ -19,7 +19,7 @@ use Rattle.drive.specs.declared.Answer.the-variants.{Dwell, Move}
 -- What the drive is told: "a dwell that carries its level", or "a move: one record of three 64-bit floats".
 pub data Told : Type 0 where
   dwell : (level : Float) → Told
-  move : (left above below : Float) → Told
+  move : (from above below : Float) → Told
 
 -- The exact rules' words and values for each case of the enum.
 abbrev pub toldOf : Answer → Told
@@ -30,19 +30,16 @@ toldOf (Move m) = move (m .left) (m .numerator) (m .denominator)
 abbrev pub resting : Told
 resting = dwell (fin false 0 (pos 0))
 
--- "the numerator above and 256·h³", of piece i: those of the value at the position x
-abbrev pub numeratorOn : Table → ℕ → ℤ → ℤ
-numeratorOn t i x =
-    numerator unit (step (t .knots) i) (step (t .values) i) (entry (t .slopes) i) (entry (t .slopes) (i + 1)) (x -ℤ entry (t .knots) i)
+-- "A flat piece answers a dwell [..]. Any other answers a move: [..] the left value, the numerator above and 256·h³. All three are exact whole numbers." The
+-- numerator is that of the value t counts into a piece of width h, rise z and slopes m, n.
+pub data ToldIn (left h z m n t : ℤ) : Told → Type 0 where
+  dwells : {level : Float} → z ≡ pos 0 → Exactly binary64 left level → ToldIn left h z m n t (dwell level)
+  moves : {from above below : Float} → (z ≡ pos 0 → ⊥) → Exactly binary64 left from → Exactly binary64 (numerator unit h z m n t) above
+      → Exactly binary64 (denominator unit h) below → ToldIn left h z m n t (move from above below)
 
-abbrev pub denominatorOn : Table → ℕ → ℤ
-denominatorOn t i = denominator unit (step (t .knots) i)
-
--- "A flat piece answers a dwell [..]. Any other answers a move: [..] the left value, the numerator above and 256·h³. All three are exact whole numbers."
-pub data ToldOn (t : Table) (i : ℕ) (x : ℤ) : Told → Type 0 where
-  dwells : {level : Float} → step (t .values) i ≡ pos 0 → Exactly binary64 (entry (t .values) i) level → ToldOn t i x (dwell level)
-  moves : {left above below : Float} → (step (t .values) i ≡ pos 0 → ⊥) → Exactly binary64 (entry (t .values) i) left → Exactly binary64 (numeratorOn t i x) above
-      → Exactly binary64 (denominatorOn t i) below → ToldOn t i x (move left above below)
+abbrev pub ToldOn : Table → ℕ → ℤ → Told → Type 0
+ToldOn t i x =
+    ToldIn (entry (t .values) i) (step (t .knots) i) (step (t .values) i) (entry (t .slopes) i) (entry (t .slopes) (i + 1)) (x -ℤ entry (t .knots) i)
 
 -- what is told at a position, on the piece that it belongs to
 pub record ToldAt (t : Table) (x : ℤ) (a : Told) : Type 0 where

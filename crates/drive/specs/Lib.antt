@@ -1,1 +1,3 @@
 pub mod Drive
+pub mod Size
+pub mod Refused

@@ -1,14 +1,18 @@
 // What a drive is told at a position, in floats.
 ghost use mathlib.Core.Path.{_≡_};
+ghost use lib.Ieee.{binary64};
 ghost use Rattle.integers.specs.Promise.{Decided};
+ghost use Rattle.floats.specs.Promise.{Exactly};
+ghost use Rattle.cubic.specs.Piece.{unit};
+ghost use Rattle.cubic.specs.Value.{numerator, denominator};
 ghost use Rattle.rules.specs.Limits.{WidthWithin, RiseWithin, TooLarge};
-ghost use Rattle.table.specs.Table.{table, step};
-ghost use Rattle.table.specs.Accepted.{Accepted};
-ghost use Rattle.position.specs.Position.{Belongs};
-ghost use Rattle.drive.specs.Drive.{toldOf, resting, ToldOn, Driving};
+ghost use Rattle.table.specs.Table.{table};
+ghost use Rattle.position.specs.Spot.{Inside};
+ghost use Rattle.drive.specs.Drive.{toldOf, resting, ToldIn, Driving};
 
 mod horner;
 
+use position::Spot;
 use rules::Refusal;
 
 // Where the curve is at a position, as the drive takes it: left + numerator / denominator. Each is a whole number, exactly.
@@ -39,28 +43,36 @@ fn too_large(h: i64, z: i64) -> bool
     !integers::between(-rules::EXACT, z * (h * h * h), rules::EXACT)
 }
 
-// What the drive is told at a position of piece i.
-fn answer_on(knots: &[i32], values: &[i32], slopes: &[i32], i: usize, position: i32) -> Answer
-    requires { ⌜ Accepted (table (now knots) (now values) (now slopes)) ⌝ }
-    requires { ⌜ Belongs (now knots) position i ⌝ }
-    requires { ⌜ (TooLarge (step (now knots) i) (step (now values) i) → ⊥) ⌝ }
-    ensures { λ r. ⌜ ToldOn (table (now (knots .entry)) (now (values .entry)) (now (slopes .entry))) i position (toldOf r) ⌝ }
+// A move in a piece that is not too large: the left value, and what the curve has risen by since, over its denominator.
+fn moving(left: i32, h: i64, z: i64, m: i32, n: i32, t: i64) -> Floats
+    requires { ⌜ Inside h z m n t ⌝ }
+    requires { ⌜ (TooLarge h z → ⊥) ⌝ }
+    ensures { λ r. ⌜ Exactly binary64 left (r .left) ⌝ }
+    ensures { λ r. ⌜ Exactly binary64 (numerator unit h z m n t) (r .numerator) ⌝ }
+    ensures { λ r. ⌜ Exactly binary64 (denominator unit h) (r .denominator) ⌝ }
 {
-    let left = values[i] as f64;
-    let h = table::step(knots, i);
-    let z = table::step(values, i);
-    if z == 0 {
-        return Answer::Dwell(left);
-    }
-    let t = integers::difference(knots[i], position);
-    let cubic = piece::coefficients(h, z, slopes[i], slopes[i + 1]);
+    let cubic = piece::coefficients(h, z, m, n);
     let numerator = horner::numerator(cubic.first, cubic.second, cubic.third, t, h);
     let denominator = (rules::UNIT * (h * h * h)) as f64;
-    Answer::Move(Floats {
-        left,
+    let start = left as f64;
+    Floats {
+        left: start,
         numerator,
         denominator,
-    })
+    }
+}
+
+// What the drive is told in a piece that is not too large.
+fn told(s: Spot) -> Answer
+    requires { ⌜ Inside (s .h) (s .z) (s .m) (s .n) (s .t) ⌝ }
+    requires { ⌜ (TooLarge (s .h) (s .z) → ⊥) ⌝ }
+    ensures { λ r. ⌜ ToldIn (s .left) (s .h) (s .z) (s .m) (s .n) (s .t) (toldOf r) ⌝ }
+{
+    if s.z == 0 {
+        let level = s.left as f64;
+        return Answer::Dwell(level);
+    }
+    Answer::Move(moving(s.left, s.h, s.z, s.m, s.n, s.t))
 }
 
 // A refused answer.
@@ -84,13 +96,13 @@ pub fn float_answer(knots: &[i32], values: &[i32], slopes: &[i32], position: i32
     if refusal.number != rules::DONE {
         return refused(refusal);
     }
-    let i = place.piece;
-    if too_large(table::step(knots, i), table::step(values, i)) {
+    let spot = position::spot_on(knots, values, slopes, place.piece, position);
+    if too_large(spot.h, spot.z) {
         return refused(Refusal {
             number: rules::SIZE,
-            place: i,
+            place: place.piece,
         });
     }
-    let answer = answer_on(knots, values, slopes, i, position);
+    let answer = told(spot);
     Driven { refusal, answer }
 }

@@ -3,3 +3,4 @@ pub mod Signed
 pub mod Rounded
 pub mod Whole
 pub mod Exactly
+pub mod Cast

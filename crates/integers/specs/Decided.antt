@@ -2,11 +2,13 @@
 use mathlib.Core.Path.{_≡_, refl, subst}
 use mathlib.Core.Bool.{Bool, true, false, not}
 use mathlib.Core.Logic.{_⊎_, inl, inr, ⊎-elim}
+use Prim.Native.Nat.{ℕ}
 use lib.Dec.{T}
-use lib.IntN.{ℤ}
+use lib.IntN.{ℤ, pos, negℤ}
 use lib.Signed.{_≤ℤ_, _<ℤ_, clashℤ, ≤ℤ-refl}
-use Rattle.integers.specs.Promise.{Between, Decided, holds, fails}
-use Rattle.integers.specs.Order.{≤ℤ-or-<ℤ, ≤ℤ-antisym}
+use Rattle.integers.specs.Promise.{Between, Decided, holds, fails, magnitude}
+use Rattle.integers.specs.Order.{≤ℤ-or-<ℤ, ≤ℤ-antisym, ≤-pos, pos-≤}
+use Rattle.integers.specs.Within.{Within, within, within-low, within-high}
 
 -- by a test that is true where A holds
 pub decided-by : {A : Type 0} (b : Bool) → (b ≡ true → A) → (b ≡ false → A → ⊥) → Decided A b
@@ -53,3 +55,11 @@ between-or-not l x h = go (≤ℤ-or-<ℤ l x) (≤ℤ-or-<ℤ x h)
     go (inl a) (inl b) = inl (record { low = a; high = b })
     go (inl a) (inr b) = inr (λ (w : Between l x h). clashℤ b (w .high))
     go (inr a) b = inr (λ (w : Between l x h). clashℤ a (w .low))
+
+-- a number is beyond M, on either side of 0, exactly where it is not between −M and M
+pub beyond : (M : ℕ) {x : ℤ} {b : Bool} → Decided (Between (negℤ (pos M)) x (pos M)) b → Decided (pos M <ℤ magnitude x) (not b)
+beyond M {x} (holds i) = fails (λ l. clashℤ l (pos-≤ (within M x (i .low) (i .high) .size)))
+beyond M {x} (fails f) = holds (⊎-elim inside (λ l. l) (≤ℤ-or-<ℤ (magnitude x) (pos M)))
+  where
+    inside : magnitude x ≤ℤ pos M → pos M <ℤ magnitude x
+    inside h = let w : Within M x = record { size = ≤-pos h } in absurd (f (record { low = within-low w; high = within-high w }))

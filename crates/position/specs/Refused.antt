@@ -1,12 +1,12 @@
 -- When a position is refused: the causes that a table has by itself are asked as in the table check.
 use mathlib.Core.Path.{_≡_, refl}
-use mathlib.Core.List.{List, [], _∷_}
+use mathlib.Core.List.{[], _∷_}
 use Prim.Native.Nat.{ℕ}
 use native.Mathlib.Omega.{arith}
 use lib.IntN.{ℤ}
 use Rattle.integers.specs.Decided.{stable, between-or-not}
 use Rattle.rules.specs.Refusals.{Given, done, refused, passed}
-use Rattle.rules.specs.Order.{Same, none, also, other-way, carried, front, behind, clear}
+use Rattle.rules.specs.Order.{Same, one-more-cause, other-way, carried, front, behind, clear}
 use Rattle.table.specs.Table.{Table, Holds, checkOrder}
 use Rattle.table.specs.Accepted.{Accepted, accepted-table}
 use Rattle.position.specs.Position.{WithinKnots, HoldsAt, of-table, position-outside, evaluationOrder}
@@ -17,11 +17,7 @@ module _ {t : Table} {x : ℤ} where
   table-alone c p f (position-outside g) = absurd (f refl)
 
   same-causes : Same (Holds t) (HoldsAt t x) checkOrder
-  same-causes =
-      one 1 (λ (e : 1 ≡ 6). omega arith) (one 2 (λ (e : 2 ≡ 6). omega arith) (one 3 (λ (e : 3 ≡ 6). omega arith) (one 4 (λ (e : 4 ≡ 6). omega arith) (one 5 (λ (e : 5 ≡ 6). omega arith) none))))
-    where
-      one : (c : ℕ) {order : List ℕ} → (c ≡ 6 → ⊥) → Same (Holds t) (HoldsAt t x) order → Same (Holds t) (HoldsAt t x) (c ∷ order)
-      one c f = also (λ _. of-table) (λ p. table-alone c p f)
+  same-causes = one-more-cause 6 checkOrder (λ _ _. of-table) table-alone tt
 
   pub as-checked : {n p : ℕ} → Given (Holds t) checkOrder n p → Given (HoldsAt t x) checkOrder n p
   as-checked = carried same-causes

@@ -18,5 +18,5 @@ abbrev pub RiseWithin : ℤ → Type 0
 RiseWithin z = Between (negsuc 1048575) z (pos 1048576)
 
 -- "refused by 8 exactly if |z|·h³ > 2^40"
-abbrev pub TooLarge : (h z : ℤ) → Type 0
-TooLarge h z = pos 1099511627776 <ℤ (magnitude z *ℤ (h *ℤ h *ℤ h))
+pub record TooLarge (h z : ℤ) : Type 0 where
+  pub above : pos 1099511627776 <ℤ (magnitude z *ℤ (h *ℤ h *ℤ h))

@@ -1,10 +1,13 @@
 -- Laws of the order of refusals: one number and place only, how the answers to parts of an order make the answer to the whole, and what is
 -- left in a list or answered.
-use mathlib.Core.Path.{_≡_, refl, sym, ap}
+use mathlib.Core.Path.{_≡_, refl, sym, ap, subst}
+use mathlib.Core.Bool.{Bool, true, false, not, _&&_}
 use mathlib.Core.List.{List, [], _∷_, _++_}
 use Prim.Native.Nat.{ℕ, zero, suc, _<_}
+use lib.Dec.{T, eqb, eqb-refl}
 use lib.IntN.{ℤ}
 use native.Mathlib.Omega.{arith}
+use mir.Facts.{and-yes}
 use Rattle.rules.specs.Refusals.{Given, done, refused, passed, afterwards, Answered, nothing, answered}
 
 pub neither-less : {p q : ℕ} → (p < q → ⊥) → (q < p → ⊥) → p ≡ q
@@ -36,6 +39,12 @@ module _ {H : ℕ → ℕ → Type 0} where
   went-on e (refused h f) g = absurd (omega (arith, e))
   went-on e (passed f h) g = passed f (went-on e h g)
 
+  -- what passes has place 0
+  pub passes-at-0 : {order : List ℕ} {n p : ℕ} → n ≡ 0 → Given H order n p → p ≡ 0
+  passes-at-0 e done = refl
+  passes-at-0 e (refused h f) = absurd (omega (arith, e))
+  passes-at-0 e (passed f g) = passes-at-0 e g
+
   -- a pass says of each cause that it does not hold
   pub clear : {c : ℕ} {order : List ℕ} {n p : ℕ} → n ≡ 0 → Given H (c ∷ order) n p → (q : ℕ) → H c q → ⊥
   clear e (refused h f) = absurd (omega (arith, e))
@@ -61,6 +70,21 @@ module _ {H : ℕ → ℕ → Type 0} where
 pub data Same (H K : ℕ → ℕ → Type 0) : List ℕ → Type 0 where
   none : Same H K []
   also : {c : ℕ} {order : List ℕ} → ((p : ℕ) → H c p → K c p) → ((p : ℕ) → K c p → H c p) → Same H K order → Same H K (c ∷ order)
+
+-- so they do where K has H's causes and one more, d, that the order does not ask for
+abbrev pub without : ℕ → List ℕ → Bool
+without d [] = true
+without d (c ∷ order) = not (eqb c d) && without d order
+
+pub one-more-cause : {H K : ℕ → ℕ → Type 0} (d : ℕ) (order : List ℕ) → ((c p : ℕ) → H c p → K c p) → ((c p : ℕ) → (c ≡ d → ⊥) → K c p → H c p) → T (without d order) → Same H K order
+one-more-cause d [] f g t = none
+one-more-cause d (c ∷ order) f g t =
+    let b = and-yes (not (eqb c d)) (without d order) t in
+    also (f c) (λ p. g c p (λ e. not-both (eqb c d) (subst (λ (x : ℕ). T (eqb c x)) e (eqb-refl c)) (b .0))) (one-more-cause d order f g (b .1))
+  where
+    not-both : (b : Bool) → T b → T (not b) → ⊥
+    not-both true t n = n
+    not-both false t n = t
 
 pub other-way : {H K : ℕ → ℕ → Type 0} {order : List ℕ} → Same H K order → Same K H order
 other-way none = none

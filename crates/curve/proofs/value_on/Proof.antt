@@ -11,23 +11,14 @@ use Rattle.integers.specs.Within.{Within}
 use Rattle.integers.specs.Sizes.{Known, known, held, fits, plain-is, code}
 use Rattle.cubic.specs.Piece.{unit}
 use Rattle.cubic.specs.Value.{risen}
-use Rattle.position.specs.Spot.{Inside, Held, as-held, of-held}
+use Rattle.position.specs.Spot.{Inside, Held, held-fields, as-held, of-held}
 use Rattle.curve.specs.OnPiece.{risen-within, value-fits}
 use Rattle.curve.proofs.value_on.Statement.{statement}
 use Rattle.curve.proofs.value_on.Tie as tie
 
 -- what the type says of a spot's numbers
 spot : (c : tie.After-struct-told) → let s = c .before .args .s in Held (s .left) (s .h) (s .z) (s .m) (s .n) (s .t)
-spot c =
-    let g = c .struct-told .given in
-    record {
-      left-fits = record { sfits = g .0 .1 };
-      h-fits = record { sfits = g .1 .0 .1 };
-      z-fits = record { sfits = g .1 .1 .0 .1 };
-      m-fits = record { sfits = g .1 .1 .1 .0 .1 };
-      n-fits = record { sfits = g .1 .1 .1 .1 .0 .1 };
-      t-fits = record { sfits = g .1 .1 .1 .1 .1 .0 .1 };
-    }
+spot c = held-fields (c .struct-told .given)
 
 risen-requires : tie.Need-risen-requires
 risen-requires c κs = let p = c .before .before .before .before in as-held Inside (spot p) (p .before .pre .0)

@@ -1,0 +1,43 @@
+-- When a float answer is refused: the causes that evaluation has are asked as there.
+use mathlib.Core.Path.{_≡_, refl, subst}
+use mathlib.Core.List.{[], _∷_}
+use Prim.Native.Nat.{ℕ}
+use native.Mathlib.Omega.{arith}
+use lib.IntN.{ℤ}
+use Rattle.rules.specs.Limits.{TooLarge}
+use Rattle.rules.specs.Refusals.{Given, done, refused, passed}
+use Rattle.rules.specs.Order.{Same, one-more-cause, other-way, carried, front}
+use Rattle.table.specs.Table.{Table, step}
+use Rattle.table.specs.Accepted.{Accepted}
+use Rattle.position.specs.Position.{Belongs, HoldsAt, of-table, evaluationOrder}
+use Rattle.position.specs.Pieces.{one-piece}
+use Rattle.position.specs.Refused.{accepted-at}
+use Rattle.drive.specs.Drive.{HoldsFor, of-position, too-large, floatOrder}
+
+module _ {t : Table} {x : ℤ} where
+  position-alone : (c p : ℕ) → (c ≡ 8 → ⊥) → HoldsFor t x c p → HoldsAt t x c p
+  position-alone c p f (of-position h) = h
+  position-alone c p f (too-large b l) = absurd (f refl)
+
+  same-causes : Same (HoldsAt t x) (HoldsFor t x) evaluationOrder
+  same-causes = one-more-cause 8 evaluationOrder (λ _ _. of-position) position-alone tt
+
+  pub as-evaluated : {n p : ℕ} → Given (HoldsAt t x) evaluationOrder n p → Given (HoldsFor t x) evaluationOrder n p
+  as-evaluated = carried same-causes
+
+  -- what is known where nothing is refused
+  pub accepted-for : {n p : ℕ} → n ≡ 0 → Given (HoldsFor t x) floatOrder n p → Accepted t
+  accepted-for e g = accepted-at refl (carried (other-way same-causes) (front evaluationOrder (8 ∷ []) e g))
+
+  -- the position's piece, of which there is one
+  module _ {i : ℕ} (a : Accepted t) (b : Belongs (t .knots) x i) where
+    at-its-piece : (p : ℕ) → HoldsFor t x 8 p → (p ≡ i) × TooLarge (step (t .knots) i) (step (t .values) i)
+    at-its-piece p (of-position (of-table h)) = elim h [ ]
+    at-its-piece p (too-large c l) =
+        let e = one-piece (a .limits) c b in (e, subst (λ (j : ℕ). TooLarge (step (t .knots) j) (step (t .values) j)) e l)
+
+    pub refused-large : TooLarge (step (t .knots) i) (step (t .values) i) → Given (HoldsFor t x) (8 ∷ []) 8 i
+    refused-large l = refused (too-large b l) (λ q m h. absurd (omega (arith, m, at-its-piece q h .0)))
+
+    pub taken-small : (TooLarge (step (t .knots) i) (step (t .values) i) → ⊥) → Given (HoldsFor t x) (8 ∷ []) 0 0
+    taken-small f = passed (λ p h. f (at-its-piece p h .1)) done
