@@ -1,5 +1,6 @@
 // Answer lines. Each is put together in a buffer that has room for the longest, and written by one call. Each function says whether its line
 // could be written.
+use crate::floating;
 use crate::lists::ROOM;
 
 // `? line L: CAUSE`.
@@ -51,6 +52,35 @@ pub fn value(v: curve::Value) -> bool {
     let out: &mut [u8] = &mut space;
     let n = decimals::append_whole32(out, 0, v.value);
     close(out, n)
+}
+
+// `dwell L` or `move L N D`, or the refusal.
+pub fn driven(d: drive::Driven) -> bool {
+    if d.refusal.number != rules::DONE {
+        return refused(d.refusal);
+    }
+    let mut space = [0u8; 128];
+    let out: &mut [u8] = &mut space;
+    let answer = d.answer;
+    let n = match answer {
+        drive::Answer::Dwell(level) => dwell(out, level),
+        drive::Answer::Move(m) => motion(out, m),
+    };
+    close(out, n)
+}
+
+fn dwell(out: &mut [u8], level: f64) -> usize {
+    let n = words::append(out, 0, b"dwell ");
+    floating::append(out, n, level)
+}
+
+fn motion(out: &mut [u8], m: drive::Floats) -> usize {
+    let n = words::append(out, 0, b"move ");
+    let n = floating::append(out, n, m.left);
+    let n = words::append(out, n, b" ");
+    let n = floating::append(out, n, m.numerator);
+    let n = words::append(out, n, b" ");
+    floating::append(out, n, m.denominator)
 }
 
 // `ok COUNT`.
@@ -118,6 +148,7 @@ fn cause(out: &mut [u8], held: usize, number: u32) -> usize {
             held,
             b"position before the first or after the last knot",
         ),
+        8 => words::append(out, held, b"piece too large for the exact float answer"),
         _ => held,
     }
 }

@@ -18,6 +18,7 @@ enum Asked {
     Build,
     Check,
     At,
+    Drive,
     Unknown,
 }
 
@@ -112,6 +113,7 @@ fn other_command(
         Asked::Build => tables::build(line, from, number, knots, values, slopes),
         Asked::Check => tables::check(line, from, number, knots, values, slopes),
         Asked::At => tables::at(line, from, number, knots, values, slopes),
+        Asked::Drive => tables::drive(line, from, number, knots, values, slopes),
         Asked::Unknown => answers::fault(number, b"no such command"),
     }
 }
@@ -132,6 +134,9 @@ fn named(word: &[u8]) -> Asked {
     }
     if check::same(word, b"at") {
         return Asked::At;
+    }
+    if check::same(word, b"drive") {
+        return Asked::Drive;
     }
     Asked::Unknown
 }

@@ -1,6 +1,7 @@
 // The workbench: reads a command a line from standard input, and writes an answer a line to standard output.
 mod answers;
 mod commands;
+mod floating;
 mod input;
 mod lists;
 mod numbers;

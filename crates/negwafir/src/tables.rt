@@ -44,11 +44,31 @@ pub fn at(
     values: &[i32],
     slopes: &[i32],
 ) -> bool {
-    if let Counted::Fault(written) = count(line, from, number, 1) {
-        return written;
-    }
-    match read_narrow(line, from, number, 1) {
+    match only_number(line, from, number) {
         Narrow::Is(x, _) => answers::value(curve::evaluate(knots, values, slopes, x)),
         Narrow::Fault(written) => written,
+    }
+}
+
+// `drive X`: what the drive is told at a position.
+pub fn drive(
+    line: &[u8],
+    from: usize,
+    number: u64,
+    knots: &[i32],
+    values: &[i32],
+    slopes: &[i32],
+) -> bool {
+    match only_number(line, from, number) {
+        Narrow::Is(x, _) => answers::driven(drive::float_answer(knots, values, slopes, x)),
+        Narrow::Fault(written) => written,
+    }
+}
+
+// The number of a command that has one, of 32 bits.
+fn only_number(line: &[u8], from: usize, number: u64) -> Narrow {
+    match count(line, from, number, 1) {
+        Counted::Right => read_narrow(line, from, number, 1),
+        Counted::Fault(written) => Narrow::Fault(written),
     }
 }
