@@ -1,5 +1,5 @@
 -- The value in a piece that an accepted table has.
-use mathlib.Core.Path.{_≡_, subst}
+use mathlib.Core.Path.{_≡_, sym, subst}
 use lib.IntN.{ℤ, pos, _+ℤ_, _-ℤ_}
 use lib.Signed.{ltZ-yes}
 use mir.Syntax.{Width}
@@ -23,6 +23,10 @@ module _ {h z m n t : ℤ} (o : Inside h z m n t) where
   -- what it has risen by is a part of the piece's rise
   pub risen-within : Within 1048576 (risen unit h z m n t)
   risen-within = part-within (rise-size (o .rise)) from-left to-right
+
+  -- and nothing without one
+  pub level-risen : z ≡ pos 0 → risen unit h z m n t ≡ pos 0
+  level-risen e = sym (from-left .level e)
 
   -- the value lies between the piece's two values
   pub value-amid : {left right : ℤ} → z ≡ right -ℤ left → Amid left (left +ℤ risen unit h z m n t) right
