@@ -116,11 +116,11 @@ pub fn coefficients(h: i64, z: i64, m: i32, n: i32) -> Cubic
     requires { ⌜ RiseWithin z ⌝ }
     ensures { λ r. ⌜ Coefficients unit h z m n (r .first) (r .second) (r .third) ⌝ }
 {
-    let rise = rules::UNIT * z;
+    let units = rules::UNIT * z;
     let a = (m as i64) * h;
     let b = (n as i64) * h;
-    let second = 3 * rise - 2 * a - b;
-    let third = a + b - 2 * rise;
+    let second = 3 * units - 2 * a - b;
+    let third = a + b - 2 * units;
     Cubic {
         first: a,
         second,

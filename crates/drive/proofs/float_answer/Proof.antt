@@ -102,7 +102,7 @@ returns-2 c =
     let p = e .before .before .before .before in
     let e1 = p .before in
     let large-here = of-spot (λ (left h z m n t : ℤ). TooLarge h z) (spot p) (told (large (e .before)) (e .if2 .taken)) in
-    rests (c .refused2 .ensures .0) (c .refused2 .ensures .1) (λ (n : 8 ≡ 0). absurd (omega arith))
+    rests (c .refused2 .ensures .0) (c .refused2 .ensures .1) (λ n. omega (arith, n))
     (went-on (e1 .if1 .left) (as-evaluated (located (e1 .before .before .before) .refusal)) (refused-large (accepted e1) (belongs e1) large-here))
 
 told-requires : tie.Need-told-requires

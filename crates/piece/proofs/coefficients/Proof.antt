@@ -22,8 +22,8 @@ returns c =
       third-is = plain-is {Γ = given c} (search code depth 30 fits 9000) tt;
     }
 
-mul-rise : tie.Need-mul-rise
-mul-rise c = fits (given c) (search code depth 30 fits 9000) tt
+mul-units : tie.Need-mul-units
+mul-units c = fits (given c) (search code depth 30 fits 9000) tt
 
 cast-a : tie.Need-cast-a
 cast-a c = fits (given c) (search code depth 30 fits 9000) tt
@@ -62,7 +62,7 @@ pub coefficients-spec : {M : Type 1} → statement M
 coefficients-spec =
     tie.close
     (tie.spec
-    mul-rise
+    mul-units
     cast-a
     mul-a
     cast-b
