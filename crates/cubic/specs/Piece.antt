@@ -1,4 +1,5 @@
--- The exact rules' definitions for one piece, as they are written there. Whoever believes a promise about pieces believes this file.
+-- The exact rules' definitions for one piece, as they are written there. Whoever believes a promise about pieces believes this file. As on paper, products go
+-- before sums, and x − y − z is (x − y) − z.
 use mathlib.Core.Path.{_≡_}
 use Prim.Native.Nat.{ℕ, _≤_}
 use lib.IntN.{ℤ, pos, negℤ, _+ℤ_, _-ℤ_, _*ℤ_}
@@ -25,7 +26,7 @@ pub record Monotone (U h z m n : ℤ) : Type 0 where
   pub level : z ≡ pos 0 → (m *ℤ h ≡ pos 0) × (n *ℤ h ≡ pos 0)
 
 -- "a·t·h² + (3Z − 2a − b)·t²·h + (a + b − 2Z)·t³": the cubic's rise up to the fraction t/h of the width,
--- times U·h³. The laws take any fraction; in a value h is the width itself.
+-- times U·h³. In a value h is the width itself.
 abbrev pub riseAt : (Z a b t h : ℤ) → ℤ
 riseAt Z a b t h =
     a *ℤ t *ℤ (h *ℤ h) +ℤ (pos 3 *ℤ Z -ℤ pos 2 *ℤ a -ℤ b) *ℤ (t *ℤ t) *ℤ h +ℤ (a +ℤ b -ℤ pos 2 *ℤ Z) *ℤ (t *ℤ t *ℤ t)

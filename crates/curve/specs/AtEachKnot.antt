@@ -9,6 +9,7 @@ use lib.IntN.{ℤ, pos, _+ℤ_, _-ℤ_}
 use lib.Signed.{ltZ-yes}
 use lib.ListN.{length}
 use Rattle.integers.specs.Linear.{lin, says}
+use Rattle.integers.specs.Order.{across}
 use Rattle.cubic.specs.Piece.{unit}
 use Rattle.cubic.specs.Value.{risen}
 use Rattle.cubic.specs.InOrder.{risen-at-left, risen-at-right}
@@ -38,10 +39,7 @@ module _ {t : Table} (a : Accepted t) where
   at-right : (i : ℕ) → i + 1 < length (t .knots) → valueOn t i (entry (t .knots) (i + 1)) ≡ entry (t .values) (i + 1)
   at-right i l =
       ap (λ (w : ℤ). entry (t .values) i +ℤ w) (risen-at-right {U = unit} (ltZ-yes tt) (0<-width (a .limits .widths i l)) (step (t .values) i) (entry (t .slopes) i) (entry (t .slopes) (i + 1)))
-      ∙ whole (entry (t .values) i) (entry (t .values) (i + 1))
-    where
-      whole : (l r : ℤ) → l +ℤ (r -ℤ l) ≡ r
-      whole l r = lin (l ∷ r ∷ []) (search says depth 30 fits 9000) (omega arith)
+      ∙ across (entry (t .values) i) (entry (t .values) (i + 1))
 
   -- a knot is the left end of the piece that starts there, and the last one the right end of the last
   value-at-knot : (k i : ℕ) → k < length (t .knots) → Belongs (t .knots) (entry (t .knots) k) i → valueOn t i (entry (t .knots) k) ≡ entry (t .values) k

@@ -20,7 +20,7 @@ pub data Makes (v : ℤ) : Told → Type 0 where
   quotient-is : {from above below : Float} {left n d : ℤ} → Exactly binary64 left from → Exactly binary64 n above → Exactly binary64 d below → v ≡ left +ℤ rounded n d → Makes v (move from above below)
 
 makes : {left h z m n t : ℤ} {a : Told} → Inside h z m n t → ToldIn left h z m n t a → Makes (left +ℤ risen unit h z m n t) a
-makes {left} o (dwells {level} e x) = level-is (subst (λ (v : ℤ). Exactly binary64 v level) (sym (ap (λ (w : ℤ). left +ℤ w) (level-risen o e) ∙ +ℤ-idr left)) x)
+makes {left} o (dwells {x = level} e x) = level-is (subst (λ (v : ℤ). Exactly binary64 v level) (sym (ap (λ (w : ℤ). left +ℤ w) (level-risen o e) ∙ +ℤ-idr left)) x)
 makes o (moves f x y w) = quotient-is x y w refl
 
 pub what-the-drive-makes-of-its-answer-is-the-value : {t : Table} {x v : ℤ} {a : Told} → Accepted t → ToldAt t x a → ValueAt t x v → Makes v a

@@ -28,7 +28,7 @@ pub enum Answer {
     Move(Floats),
 }
 
-// What the drive is told, or the refusal and a dwell at level 0.
+// The refusal, 0 at place 0 for none, and what the drive is told: a dwell at level 0 where it is refused.
 pub struct Driven {
     pub refusal: Refusal,
     pub answer: Answer,

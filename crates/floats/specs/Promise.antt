@@ -10,7 +10,7 @@ abbrev pub negative : ℤ → Bool
 negative (pos n) = false
 negative (negsuc n) = true
 
--- x is the whole number n exactly, as the format f holds it: "a zero [..] is always +0, never −0".
+-- x is the whole number n exactly, as the format f holds it. "A zero among them, or a zero level, is always +0, never −0."
 pub record Exactly (f : Format) (n : ℤ) (x : Float) : Type 0 where
   pub held : T (fits f x)
   pub value : HasValue x (negative n) (natAbs n) 1

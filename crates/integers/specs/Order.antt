@@ -27,6 +27,10 @@ pub <ℤ→≤ℤ : {x y : ℤ} → x <ℤ y → x ≤ℤ y
 pub ≤ℤ-antisym : {x y : ℤ} → x ≤ℤ y → y ≤ℤ x → x ≡ y
 ≤ℤ-antisym {x} {y} = lin (x ∷ y ∷ []) (search says depth 30 fits 9000) (omega arith)
 
+-- from l as far as r is away
+pub across : (l r : ℤ) → l +ℤ (r -ℤ l) ≡ r
+across l r = lin (l ∷ r ∷ []) (search says depth 30 fits 9000) (omega arith)
+
 -- the naturals' order is the same
 pub pos-≤ : {m n : ℕ} → m ≤ n → pos m ≤ℤ pos n
 pos-≤ {m} {n} h = ≤-from (pos m) (pos n) (omega arith)

@@ -10,12 +10,12 @@ use Rattle.rules.specs.Refusals.{Given, Answered}
 use Rattle.table.specs.Table.{Table, entry, Holds}
 
 -- "A position at an inner knot belongs to the piece that starts there; the last knot belongs to the last piece." One between two knots belongs to the
--- piece between them. Where no width is refused, each position from the first knot to the last has one piece; elsewhere nothing rests on this.
+-- piece between them. Where neither 2 nor 3 is given, each position from the first knot to the last has one piece; elsewhere nothing rests on this.
 pub data Belongs (ks : List ℤ) (x : ℤ) : ℕ → Type 0 where
   inside : {i : ℕ} → i + 1 < length ks → entry ks i ≤ℤ x → x <ℤ entry ks (i + 1) → Belongs ks x i
   at-last-knot : {i : ℕ} → i + 2 ≡ length ks → x ≡ entry ks (i + 1) → Belongs ks x i
 
--- from the first knot to the last, of which there are two at least once 2 is asked
+-- from the first knot to the last; by then 2 has been asked, so that there are both
 abbrev pub WithinKnots : (ks : List ℤ) (x : ℤ) → Type 0
 WithinKnots ks x = Between (entry ks 0) x (entry ks (length ks - 1))
 

@@ -16,7 +16,7 @@ given s = known-width (s .args .h) (s .pre .0) ∷ known-rise (s .args .z) (s .p
 returns : tie.Need-returns
 returns c =
     let s = c .before in
-    decided-by-size (s .args .h) (s .args .z) (s .pre .0)
+    decided-by-size (s .args .h) (s .args .z) {b = c .between .result} (s .pre .0)
     (plainly₃ (given s) (λ (l x h : ℤ). Decided (Between l x h) (c .between .result)) (c .between .ensures) (search arguments depth 30 fits 9000) tt)
 
 sub-between : tie.Need-sub-between

@@ -9,7 +9,7 @@ use lib.ListN.{length}
 use mir.Syntax.{w32, w64}
 use mir.Val.{SFits, toZ, ofZ}
 use mir.Facts.{toZ-ofZ}
-use Rattle.integers.specs.Linear.{lin, says}
+use Rattle.integers.specs.Order.{across}
 use Rattle.integers.specs.Sizes.{held, plain-is, code, returned}
 use Rattle.table.specs.Table.{entry, step}
 use Rattle.position.specs.Pieces.{within-list}
@@ -112,11 +112,8 @@ returns c =
       m-is = toZ-ofZ (record { sfits = at-m .m .given });
       n-is = toZ-ofZ (record { sfits = at-n .n .given });
       t-is = place c;
-      right-fits = subst (λ (v : ℤ). SFits w32 v) (sym (ap₂ _+ℤ_ left-is z-is ∙ whole (entry (s .values .now) (s .i)) (entry (s .values .now) (s .i + 1)))) (right (at-rise .before));
+      right-fits = subst (λ (v : ℤ). SFits w32 v) (sym (ap₂ _+ℤ_ left-is z-is ∙ across (entry (s .values .now) (s .i)) (entry (s .values .now) (s .i + 1)))) (right (at-rise .before));
     }
-  where
-    whole : (l r : ℤ) → l +ℤ (r -ℤ l) ≡ r
-    whole l r = lin (l ∷ r ∷ []) (search says depth 30 fits 9000) (omega arith)
 
 pub spot-on-spec : {M : Type 1} → statement M
 spot-on-spec =
