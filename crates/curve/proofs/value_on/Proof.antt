@@ -47,7 +47,8 @@ is-value c = ap (λ (w : ℤ). c .before .before .before .before .before .before
 
 cast-result-2 : tie.Need-cast-result-2
 cast-result-2 c =
-    let p = c .before .before in subst (λ (v : ℤ). SFits w32 v) (sym (plain-is {Γ = summands p} (search code depth 30 fits 9000) tt ∙ is-value p)) (value-fits-32 p)
+    let p = c .before .before in
+    subst (λ (v : ℤ). SFits w32 v) (sym (plain-is {Γ = summands p} (search code depth 30 fits 9000) tt ∙ is-value p)) (value-fits-32 p)
 
 returns : tie.Need-returns
 returns c = let p = c .before .before in toZ-ofZ (cast-result-2 c) ∙ plain-is {Γ = summands p} (search code depth 30 fits 9000) tt ∙ is-value p

@@ -43,7 +43,7 @@ mul-difference : tie.Need-mul-difference
 mul-difference c = let l = in-values (c .before .before) in search needs
 
 shared-slice-copy-out-difference : tie.Need-shared-slice-copy-out-difference
-shared-slice-copy-out-difference c = in-values (c .before .before)
+shared-slice-copy-out-difference c = omega (arith, in-values (c .before .before))
 
 difference-requires : tie.Need-difference-requires
 difference-requires c κs = search needs
@@ -61,7 +61,7 @@ mul-n : tie.Need-mul-n
 mul-n c = let l = in-slopes (c .before .before .before .before .before) in search needs
 
 shared-slice-copy-out-n : tie.Need-shared-slice-copy-out-n
-shared-slice-copy-out-n c = in-slopes (c .before .before .before .before .before)
+shared-slice-copy-out-n c = omega (arith, in-slopes (c .before .before .before .before .before))
 
 mul-difference-2 : tie.Need-mul-difference-2
 mul-difference-2 c = let l = in-knots (c .before .before .before .before .before .before) in search needs
