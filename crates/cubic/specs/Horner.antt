@@ -40,14 +40,14 @@ pub horner-within : {M H N : ℕ} {Z a b t h : ℤ} → SmallCoefficients M Z a 
 horner-within {M} {H} {N} {Z} {a} {b} {t} {h} s t₀ t₁ hH H₁ w n =
     let u = ends t h H t₀ t₁ (within-high hH) in
     let tH = within H t (u .0) (u .1) in
-    let c1 = within-product (s .third) tH in
-    let c2 = within-product (s .second) hH in
-    let c3 = within-plus c1 c2 in
-    let c4 = within-product c3 tH in
-    let c5 = within-product hH hH in
-    let c6 = within-product (s .start) c5 in
-    let c7 = within-plus c4 c6 in
-    let c8 = within-product c7 tH in
+    let three-t = within-product (s .third) tH in
+    let two-h = within-product (s .second) hH in
+    let upper = within-plus three-t two-h in
+    let upper-t = within-product upper tH in
+    let h-h = within-product hH hH in
+    let one-h-h = within-product (s .start) h-h in
+    let lower = within-plus upper-t one-h-h in
+    let last = within-product lower tH in
     let HH : H * 1 ≤ H * H = mul-le-mul-left H H₁ in
     let HHH : H * H ≤ H * (H * H) = mul-le-mul-left H (subst (λ (x : ℕ). x ≤ H * H) (mul-one H) HH) in
     let MH : M * 1 ≤ M * H = mul-le-mul-left M H₁ in
@@ -59,14 +59,14 @@ horner-within {M} {H} {N} {Z} {a} {b} {t} {h} s t₀ t₁ hH H₁ w n =
       three = record { size = omega (arith, s .third .size) };
       place = record { size = omega (arith, tH .size) };
       width = record { size = omega (arith, hH .size) };
-      three-t = record { size = omega (arith, c1 .size) };
-      two-h = record { size = omega (arith, c2 .size) };
-      upper = record { size = omega (arith, c3 .size) };
-      upper-t = record { size = omega (arith, c4 .size) };
-      h-h = record { size = omega (arith, c5 .size) };
-      one-h-h = record { size = omega (arith, c6 .size) };
-      lower = record { size = omega (arith, c7 .size) };
-      last = record { size = omega (arith, c8 .size) };
+      three-t = record { size = omega (arith, three-t .size) };
+      two-h = record { size = omega (arith, two-h .size) };
+      upper = record { size = omega (arith, upper .size) };
+      upper-t = record { size = omega (arith, upper-t .size) };
+      h-h = record { size = omega (arith, h-h .size) };
+      one-h-h = record { size = omega (arith, one-h-h .size) };
+      lower = record { size = omega (arith, lower .size) };
+      last = record { size = omega (arith, last .size) };
     }
   where
     ends : (t h : ℤ) (H : ℕ) → pos 0 ≤ℤ t → t ≤ℤ h → h ≤ℤ pos H → (negℤ (pos H) ≤ℤ t) × (t ≤ℤ pos H)

@@ -3,3 +3,4 @@ pub mod Pieces
 pub mod Refused
 pub mod Determined
 pub mod Spot
+pub mod Held

@@ -1,5 +1,5 @@
 -- "Numbers that bound everything" of the exact rules.
-use Prim.Native.Nat.{ℕ, _≤_}
+use Prim.Native.Nat.{ℕ, _^_, _≤_}
 use lib.IntN.{ℤ, pos, negsuc, _*ℤ_}
 use lib.Signed.{_<ℤ_}
 use Rattle.integers.specs.Promise.{Between, magnitude}
@@ -19,4 +19,4 @@ RiseWithin z = Between (negsuc 1048575) z (pos 1048576)
 
 -- "refused by 8 exactly if |z|·h³ > 2^40"
 pub record TooLarge (h z : ℤ) : Type 0 where
-  pub above : pos 1099511627776 <ℤ (magnitude z *ℤ (h *ℤ h *ℤ h))
+  pub above : pos (2 ^ 40) <ℤ (magnitude z *ℤ (h *ℤ h *ℤ h))

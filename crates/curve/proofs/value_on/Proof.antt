@@ -11,7 +11,8 @@ use Rattle.integers.specs.Within.{Within}
 use Rattle.integers.specs.Sizes.{Known, known, held, fits, plain-is, code}
 use Rattle.cubic.specs.Piece.{unit}
 use Rattle.cubic.specs.Value.{risen}
-use Rattle.position.specs.Spot.{Inside, Held, held-fields, as-held, of-held}
+use Rattle.position.specs.Spot.{Inside}
+use Rattle.position.specs.Held.{Held, held-fields, as-held, of-held}
 use Rattle.curve.specs.OnPiece.{risen-within, value-fits}
 use Rattle.curve.proofs.value_on.Statement.{statement}
 use Rattle.curve.proofs.value_on.Tie as tie

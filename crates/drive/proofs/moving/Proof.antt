@@ -2,6 +2,7 @@
 use mathlib.Core.Path.{_∙_, subst}
 use mathlib.Core.List.{List, [], _∷_}
 use borrow.Author.Needs.{needs}
+use Prim.Native.Nat.{_^_}
 use lib.IntN.{ℤ}
 use lib.Ieee.{binary64}
 use mir.Syntax.{w32, w64}
@@ -45,7 +46,7 @@ module _ (c : tie.After-coefficients) where
       let r = c .coefficients .result in
       plainly₄ (given s) (λ (h z m n : ℤ). Coefficients unit h z m n (r .first) (r .second) (r .third)) (c .coefficients .ensures) (search arguments depth 30 fits 9000) tt
 
-  steps : let r = c .coefficients .result in HornerWithin 9007199254740992 (r .first) (r .second) (r .third) (s .args .t) (s .args .h)
+  steps : let r = c .coefficients .result in HornerWithin (2 ^ 53) (r .first) (r .second) (r .third) (s .args .t) (s .args .h)
   steps = steps-exact (s .pre .0) (s .pre .1) are
 
   abbrev with-cubic : List Known
@@ -56,8 +57,8 @@ numerator-requires : tie.Need-numerator-requires
 numerator-requires c κs =
     let p = c .before .before .before in
     let r = p .coefficients .result in
-    as-coded₄ (with-cubic p) (λ (first second third t : ℤ). HornerWithin 9007199254740992 first second third t (toZ w64 (ofZ w64 (p .before .args .h)))) (search arguments depth 30 fits 9000) tt
-    (as-coded₁ (given (p .before)) (HornerWithin 9007199254740992 (r .first) (r .second) (r .third) (p .before .args .t)) (search arguments depth 30 fits 9000) tt (steps p))
+    as-coded₄ (with-cubic p) (λ (first second third t : ℤ). HornerWithin (2 ^ 53) first second third t (toZ w64 (ofZ w64 (p .before .args .h)))) (search arguments depth 30 fits 9000) tt
+    (as-coded₁ (given (p .before)) (HornerWithin (2 ^ 53) (r .first) (r .second) (r .third) (p .before .args .t)) (search arguments depth 30 fits 9000) tt (steps p))
 
 -- the numerator, said of the piece itself
 is-cubic : (c : tie.After-numerator) → let s = c .before .before .before .before .before .args in Exactly binary64 (numerator unit (s .h) (s .z) (s .m) (s .n) (s .t)) (c .numerator .result)

@@ -15,7 +15,8 @@ use Rattle.cubic.specs.Piece.{unit}
 use Rattle.cubic.specs.Value.{numerator, denominator}
 use Rattle.rules.specs.Limits.{TooLarge}
 use Rattle.rules.specs.Known.{known-rise}
-use Rattle.position.specs.Spot.{Inside, Held, held-fields, as-held, of-held}
+use Rattle.position.specs.Spot.{Inside}
+use Rattle.position.specs.Held.{Held, held-fields, as-held, of-held}
 use Rattle.drive.specs.Drive.{dwells, moves}
 use Rattle.drive.proofs.told.Statement.{statement}
 use Rattle.drive.proofs.told.Tie as tie

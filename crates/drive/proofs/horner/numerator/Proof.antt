@@ -1,5 +1,6 @@
 -- `drive::horner::numerator` meets its contract: each of Horner's steps is a whole number that a float holds.
 use mathlib.Core.List.{[], _∷_}
+use Prim.Native.Nat.{_^_}
 use lib.Dec.{T}
 use lib.IntN.{ℤ}
 use lib.Ieee.{binary64, inFloat, ofInt}
@@ -14,7 +15,7 @@ use Rattle.drive.proofs.horner.numerator.Statement.{statement}
 use Rattle.drive.proofs.horner.numerator.Tie as tie
 
 -- a number that goes in, cast
-module _ {n : ℤ} (w : Within 9007199254740992 n) where
+module _ {n : ℤ} (w : Within (2 ^ 53) n) where
   may : T (inFloat binary64 (toZ w64 (ofZ w64 n)))
   may = may-cast binary64 (known n _ w ∷ []) (search code depth 30 fits 9000) tt
 
