@@ -3,7 +3,8 @@
 It shares nothing with the proved program. It decides by document 01's definition, from the exact
 least value of the quadratic over the piece, and not by the test of Fritsch and Carlson. Slopes and
 values are worked out with fractions, which are exact, and rounded at the very end. A value is made
-from the Hermite basis, and not by document 01's line.
+from the Hermite basis, and not by document 01's line; so is the numerator that the drive is given,
+and no float is used for it.
 """
 import math
 import re
@@ -16,6 +17,7 @@ from functools import lru_cache
 UNIT = 256  # slopes are in 1/256 of a value per count
 WIDEST = 1024
 LARGEST_RISE = 1048576
+LARGEST_IN_FLOATS = 2**40  # a rise's size times the width cubed, up to which the drive has an exact answer
 MOST_POINTS = 1024
 LONGEST_LINE = 65536
 LONGEST_ROW = 2048  # numbers in one list: more than MOST_POINTS, so that they can be refused
@@ -28,6 +30,7 @@ CAUSES = {
     4: "a rise is outside its limits",
     5: "a piece is not monotone",
     6: "position before the first or after the last knot",
+    8: "piece too large for the exact float answer",
 }
 
 
@@ -138,21 +141,50 @@ def piece_at(knots, position):
     return min(bisect_right(knots, position), len(knots) - 1) - 1
 
 
-def value_at(knots, values, slopes, position):
-    """The value where an evaluation is not refused: the curve's own, rounded down.
+def curve_at(knots, values, slopes, position):
+    """The curve's own value where an evaluation is not refused, exactly.
 
-    The curve is a sum of four: each end's value and each end's slope, times its polynomial of the Hermite basis.
+    It is a sum of four: each end's value and each end's slope, times its polynomial of the Hermite basis.
     """
     left = piece_at(knots, position)
     right = left + 1
     width = knots[right] - knots[left]
     x = Fraction(position - knots[left], width)
-    return math.floor(
+    return (
         values[left] * (1 + 2 * x) * (1 - x) ** 2
         + values[right] * (3 - 2 * x) * x**2
         + Fraction(slopes[left] * width, UNIT) * x * (1 - x) ** 2
         + Fraction(slopes[right] * width, UNIT) * (x - 1) * x**2
     )
+
+
+def value_at(knots, values, slopes, position):
+    """The value where an evaluation is not refused: the curve's own, rounded down."""
+    return math.floor(curve_at(knots, values, slopes, position))
+
+
+def drive_refusal(knots, values, slopes, position):
+    """The first cause to refuse the drive's answer, or None. Only the position's own piece can be too large for it."""
+    refused = evaluation_refusal(knots, values, slopes, position)
+    if refused is not None:
+        return refused
+    place = piece_at(knots, position)
+    width, rise = knots[place + 1] - knots[place], values[place + 1] - values[place]
+    return refusal(8, place) if abs(rise) * width**3 > LARGEST_IN_FLOATS else None
+
+
+def drive_at(knots, values, slopes, position):
+    """The drive's answer where it is not refused: a dwell and its level, or a move and its three whole numbers.
+
+    These are the left value, and the curve's way up from there as a numerator over document 01's denominator.
+    """
+    left = piece_at(knots, position)
+    if values[left] == values[left + 1]:
+        return "dwell", values[left]
+    denominator = UNIT * (knots[left + 1] - knots[left]) ** 3
+    numerator = (curve_at(knots, values, slopes, position) - values[left]) * denominator
+    assert numerator.denominator == 1, "document 01's numerator is a whole number"
+    return "move", values[left], int(numerator), denominator
 
 
 # ---- the language
@@ -286,6 +318,9 @@ class Workbench:
     def at(self, position):
         return evaluation_refusal(*self.table(), position) or str(value_at(*self.table(), position))
 
+    def drive(self, position):
+        return drive_refusal(*self.table(), position) or " ".join(map(str, drive_at(*self.table(), position)))
+
 
 # Each command: what it runs, and the reader of the words after its name, which gives the arguments.
 Command = namedtuple("Command", "run read")
@@ -298,6 +333,7 @@ COMMANDS = {
     b"build": Command(Workbench.build, numbers()),
     b"check": Command(Workbench.check, numbers()),
     b"at": Command(Workbench.at, numbers(32)),
+    b"drive": Command(Workbench.drive, numbers(32)),
 }
 
 

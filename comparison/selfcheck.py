@@ -1,11 +1,14 @@
 """The reference held against what was worked out without it: the figures of document 01, the
-definition tried at every fraction on small pieces, slopes and values found in other ways, and lines
-whose answers were written by hand.
+definition tried at every fraction on small pieces, slopes and values found in other ways, the drive's
+answer worked out in floats, and lines whose answers were written by hand.
 """
 from fractions import Fraction
 from itertools import product
 
-from reference import UNIT, answers_to, built_slopes, check_refusal, end_slope, inner_slope, piece_at, value_at, verdict
+from reference import (
+    UNIT, answers_to, built_slopes, check_refusal, drive_at, drive_refusal, end_slope, inner_slope, piece_at, refusal,
+    value_at, verdict,
+)
 
 # Copied from document 01, "Figures to hold against it".
 FIGURES = (
@@ -131,6 +134,45 @@ TABLE_LINES = (
         b"ok 2\nok 2\nok 2\n2147483647\n2147483646\n2147483645\n"
         b"refused 6 at 0: position before the first or after the last knot\n",
     ),
+    # What the drive is told: moves, rising and falling, and dwells. At an inner knot the piece that starts there counts.
+    (b"drive 0\ndrive 1\ndrive 2\n" + SHOW_ALL, b"move 0 0 256\nmove 1 0 256\nmove 1 768 256\n0 1 2\n0 1 4\n7 8 9\n"),
+    (
+        b"knots 0 3\nvalues 0 -10\nslopes 0 0\nbuild\ndrive 0\ndrive 1\ndrive 2\ndrive 3",
+        b"ok 2\nok 2\nok 2\nok\nmove 0 0 6912\nmove 0 -23038 6912\nmove 0 -46082 6912\nmove 0 -69120 6912\n",
+    ),
+    (
+        b"knots 0 4\nvalues 0 8\nslopes 1536 0\ndrive 1\ndrive 2\nvalues 8 0\nslopes -1536 0\ndrive 0\ndrive 1",
+        b"ok 2\nok 2\nok 2\nmove 0 75776 16384\nmove 0 114688 16384\nok 2\nok 2\nmove 8 0 16384\nmove 8 -75776 16384\n",
+    ),
+    (b"values 5 5 5\nslopes 0 0 0\ndrive 0\ndrive 1\ndrive 2", b"ok 3\nok 3\n" + b"dwell 5\n" * 3),
+    (b"values 0 0 -7\nslopes 0 0 0\ndrive 0\ndrive 1\ndrive 2", b"ok 3\nok 3\ndwell 0\nmove 0 0 256\nmove 0 -1792 256\n"),
+    (b"values 0 -7 -7\nslopes 0 0 0\ndrive 0\ndrive 1\ndrive 2", b"ok 3\nok 3\nmove 0 0 256\ndwell -7\ndwell -7\n"),
+    (
+        b"knots -2147483648 -2147483647\nvalues 2147483647 2147483646\nslopes -256 -256\n"
+        b"drive -2147483648\ndrive -2147483647\ndrive 2147483647",
+        b"ok 2\nok 2\nok 2\nmove 2147483647 0 256\nmove 2147483647 -256 256\n"
+        b"refused 6 at 0: position before the first or after the last knot\n",
+    ),
+    # A piece that is too large refuses its own positions, and no others. The first two are document 01's.
+    (
+        b"knots 0 1024\nvalues 0 1024\nslopes 0 0\ndrive 512\nvalues 0 -1024\ndrive 1024",
+        b"ok 2\nok 2\nok 2\nmove 0 140737488355328 274877906944\nok 2\nmove 0 -281474976710656 274877906944\n",
+    ),
+    (
+        b"knots 0 1024\nvalues 0 1025\nslopes 0 0\ndrive 0\ndrive 512\nvalues 0 -1025\ndrive 1024",
+        b"ok 2\nok 2\nok 2\n" + b"refused 8 at 0: piece too large for the exact float answer\n" * 2
+        + b"ok 2\nrefused 8 at 0: piece too large for the exact float answer\n",
+    ),
+    (
+        b"knots -1 0 1024\nvalues -1 0 1025\nslopes 0 0 0\ndrive -1\ndrive 0\ndrive 1024\ndrive 1025\n" + SHOW_ALL,
+        b"ok 3\nok 3\nok 3\nmove -1 0 256\n" + b"refused 8 at 1: piece too large for the exact float answer\n" * 2
+        + b"refused 6 at 0: position before the first or after the last knot\n-1 0 1024\n-1 0 1025\n0 0 0\n",
+    ),
+    (
+        b"knots 0 1024 1025\nvalues 0 1025 1025\nslopes 0 0 0\ndrive 1023\ndrive 1024\nslopes 0 0 1\ndrive 1023",
+        b"ok 3\nok 3\nok 3\nrefused 8 at 0: piece too large for the exact float answer\ndwell 1025\n"
+        b"ok 3\nrefused 5 at 1: a piece is not monotone\n",
+    ),
     # Refusals of a table and of a position, each alone.
     (b"slopes 5 6\ncheck\nat 1\nat 9", b"ok 2\n" + b"refused 1 at 0: the lists' lengths differ\n" * 3),
     (b"slopes 5 6 7 8\ncheck\nat 1", b"ok 4\n" + b"refused 1 at 0: the lists' lengths differ\n" * 2),
@@ -179,11 +221,22 @@ TABLE_LINES = (
         + b"ok 3\n" + b"refused 3 at 1: a width is not in 1 to 1024\n" * 2,
     ),
     (b"slopes 0 0 -1\nat 9\nat -1", b"ok 3\n" + b"refused 5 at 1: a piece is not monotone\n" * 2),
+    (
+        b"slopes -1 0 0\ndrive 9\nvalues 0 1 1048578\ndrive 9\nknots 0 1 1\ndrive 9\nknots 0\ndrive 9",
+        b"ok 3\nrefused 5 at 0: a piece is not monotone\nok 3\nrefused 4 at 1: a rise is outside its limits\n"
+        b"ok 3\nrefused 3 at 1: a width is not in 1 to 1024\nok 1\nrefused 1 at 0: the lists' lengths differ\n",
+    ),
     # Faults of the line.
     (b"build it\nshow slopes", b"? line 4: too many words\n7 8 9\n"),
     (b"check it\nat\nat 1 2", b"? line 4: too many words\n? line 5: too few words\n? line 6: too many words\n"),
     (b"at x y\nat 1r", b"? line 4: too many words\n? line 5: number 1 is not a whole decimal number\n"),
     (b"at 2147483648\nat\t-0 \r\n", b"? line 4: number 1 does not fit 32 bits\n0\n"),
+    (
+        b"drive\ndrive 1 2\ndrive x y\ndrive 1r\ndrive 2147483648\nDrive 1\ndrive\t-0 \r\n",
+        b"? line 4: too few words\n? line 5: too many words\n? line 6: too many words\n"
+        b"? line 7: number 1 is not a whole decimal number\n? line 8: number 1 does not fit 32 bits\n"
+        b"? line 9: no such command\nmove 0 0 256\n",
+    ),
     (b"At 1\nChecks\n check\t", b"? line 4: no such command\n? line 5: no such command\nok\n"),
     (b"slopes 5\ncheck it\nat", b"ok 1\n? line 5: too many words\n? line 6: too few words\n"),
     (b"Build\nbuilds\nshow slopes", b"? line 4: no such command\n? line 5: no such command\n7 8 9\n"),
@@ -233,7 +286,7 @@ COUNT_LINES = (
         level_table(1024, b"values" + b" 3" * 1023 + b" -1048574\n"),
         b"ok 1024\n" * 4 + b"refused 4 at 1022: a rise is outside its limits\n5" + b" 5" * 1023 + b"\n",
     ),
-    (b"check\nat 0", b"refused 2 at 0: fewer than 2 or more than 1024 points\n" * 2),
+    (b"check\nat 0\ndrive 0", b"refused 2 at 0: fewer than 2 or more than 1024 points\n" * 3),
     (
         set_level(1024) + b"check\nbuild\ncheck\nat 0\nat 1023\nat 1024",
         b"ok 1024\n" * 3 + b"refused 5 at 0: a piece is not monotone\nok\nok\n3\n3\n"
@@ -363,11 +416,15 @@ def table_fault():
     return None
 
 
+def numerator_by_line(width, rise, left_slope, right_slope, t):
+    """The numerator at T by document 01's line."""
+    Z, a, b = UNIT * rise, left_slope * width, right_slope * width
+    return a * t * width**2 + (3 * Z - 2 * a - b) * t**2 * width + (a + b - 2 * Z) * t**3
+
+
 def value_by_line(width, rise, left_slope, right_slope, t):
     """Document 01's line: how far the value at T is above the left value."""
-    Z, a, b = UNIT * rise, left_slope * width, right_slope * width
-    over = a * t * width**2 + (3 * Z - 2 * a - b) * t**2 * width + (a + b - 2 * Z) * t**3
-    return over // (UNIT * width**3)
+    return numerator_by_line(width, rise, left_slope, right_slope, t) // (UNIT * width**3)
 
 
 def monotone_pieces():
@@ -390,6 +447,74 @@ def value_fault():
             return f"knots, values and slopes {table} do not have the values of document 01's line"
         if (values[0], values[-1]) != (7, 7 + rise) or values != sorted(values, reverse=rise < 0):
             return f"knots, values and slopes {table} have values that do not go from the left one to the right one"
+    return None
+
+
+# Widths whose cube divides 2^40, and the greatest rise of each that has a float answer. The last is document 01's own.
+GREATEST_IN_FLOATS = ((128, 524288), (256, 65536), (512, 8192), (1024, 1024))
+
+
+def greatest_in_floats(width):
+    """The greatest rise of this width that has a float answer: document 01's 1024 at 1024, by the cube of the ratio."""
+    return min(1024 * Fraction(1024, width) ** 3 // 1, 1048576)
+
+
+def float_limit_fault():
+    """A sentence on the first piece that is wrongly refused to the drive, or not refused, or None."""
+    for width, rise in GREATEST_IN_FLOATS:
+        if greatest_in_floats(width) != rise:
+            return f"the greatest rise for the drive at width {width} must be {rise}"
+    for width in range(1, 1025):
+        greatest = greatest_in_floats(width)
+        for rise in (greatest - 1, greatest, greatest + 1):
+            expected = refusal(4, 0) if rise > 1048576 else refusal(8, 0) if rise > greatest else None
+            for values in (0, rise), (0, -rise):
+                if drive_refusal((0, width), values, (0, 0), 0) != expected:
+                    return f"knots {0, width}, values {values}: the drive is not refused as it must be, {expected}"
+    return None
+
+
+def horner_steps(width, rise, left_slope, right_slope, t):
+    """Every result on the way to the numerator by Horner's steps, and the numerator at the end. Floats give floats."""
+    Z, a, b = UNIT * rise, left_slope * width, right_slope * width
+    third, second, first = (a + b - 2 * Z) * t, (3 * Z - 2 * a - b) * width, a * width * width
+    inner = third + second
+    outer = inner * t + first
+    return third, second, first, inner, inner * t, outer, outer * t
+
+
+def pieces_for_floats():
+    """Pieces that a check accepts, at the limit of the float answer and below it, of all shapes.
+
+    a and b are in hundredths of Z, as near as whole slopes come. 3Z - 2a - b is largest in size at 3.73 and 2.
+    """
+    points = (*product((0, 50, 100, 200, 300, 400), repeat=2), (373, 200), (200, 373))
+    for width in (1, 2, 3, 7, 50, 101, 102, 103, 128, 200, 256, 341, 511, 512, 513, 777, 1000, 1023, 1024):
+        greatest = greatest_in_floats(width)
+        for rise in (greatest, greatest - 1, greatest * 2 // 3):
+            for point in points:
+                left, right = (hundredths * UNIT * rise // (100 * width) for hundredths in point)
+                if verdict(width, rise, left, right) != "bends":
+                    yield width, rise, left, right
+                    yield width, -rise, -left, -right
+
+
+def drive_fault():
+    """A sentence on the first of the drive's numbers that is wrong, or that no float is, or None."""
+    for piece in pieces_for_floats():
+        width, rise, left, right = piece
+        table = (-5, width - 5), (7, 7 + rise), (left, right)
+        for t in sorted({0, 1, width // 3, width // 2, width - 1, width}):
+            numbers = (7, numerator_by_line(*piece, t), UNIT * width**3)
+            if drive_at(*table, t - 5) != ("move", *numbers):
+                return f"knots, values and slopes {table} do not have document 01's numerator at {t - 5}"
+            if any(int(float(number)) != number for number in numbers):
+                return f"knots, values and slopes {table} have a number at {t - 5} that is no 64-bit float"
+            wholes, floats = horner_steps(*piece, t), horner_steps(*map(float, piece), float(t))
+            if wholes[-1] != numbers[1] or any(int(step) != whole for step, whole in zip(floats, wholes)):
+                return f"knots, values and slopes {table} have a step at {t - 5} that floats do not give exactly"
+            if numbers[0] + numbers[1] // numbers[2] != value_at(*table, t - 5):
+                return f"knots, values and slopes {table} have another value at {t - 5} than the drive's division gives"
     return None
 
 
@@ -419,5 +544,5 @@ def first_fault():
     """A sentence on the first thing that is wrong with the reference, or None."""
     return (
         piece_fault() or inner_slope_fault() or end_slope_fault() or table_fault()
-        or value_fault() or position_fault() or line_fault()
+        or value_fault() or float_limit_fault() or drive_fault() or position_fault() or line_fault()
     )
