@@ -7,6 +7,7 @@ to the answers which the README shows.
 import sys
 from pathlib import Path
 
+import drives
 import evaluations
 import language
 import pieces
@@ -18,6 +19,7 @@ GROUPS = (
     *pieces.GROUPS,
     *tables.GROUPS,
     *evaluations.GROUPS,
+    *drives.GROUPS,
     *rows.GROUPS,
     *language.GROUPS,
     ("The table of before.", rows.last_table_again),

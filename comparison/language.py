@@ -11,6 +11,7 @@ def blanks():
     yield b"piece 1 1 256 256\t \t"
     yield b" \t piece 1 -1 -256 -256 \t "
     yield from (b"at\t2", b"  at   2", b"\tat\t \t2 \t", b" \tcheck\t ")
+    yield from (b"drive\t2", b"  drive   2", b"\tdrive\t \t2 \t")
 
 
 def carriage_returns():
@@ -20,7 +21,7 @@ def carriage_returns():
     yield b" \t\r"
     yield b"# a comment\r"
     yield b"piece 1 0 0 0\r"
-    yield from (b"at 2\r", b"at 2 \t\r", b"check\r", b"check \r")
+    yield from (b"at 2\r", b"at 2 \t\r", b"check\r", b"check \r", b"drive 2\r", b"drive 2 \t\r")
     # Only one CR, and only at the end, belongs to the ending.
     yield b"piece 1 1 256 256\r\r"
     yield b"\r\r"
@@ -29,6 +30,7 @@ def carriage_returns():
     yield b"piece 1 1 256 256 \r\r"
     yield b"pie\rce 1 1 256 256"
     yield from (b"at 2\r\r", b"at 2 \r\r", b"at\r2", b"\rat 2", b"check\r\r", b"check \r\r", b"\rcheck")
+    yield from (b"drive 2\r\r", b"drive 2 \r\r", b"drive\r2", b"\rdrive 2")
 
 
 def silent_lines():
@@ -39,6 +41,7 @@ def silent_lines():
     yield b"piece 1 1 256 #256"
     yield b"piece# 1 1 256 256"
     yield from (b"#at 2", b"#check", b" #check", b"at 2 # two", b"at #2", b"at# 2", b"check # all", b"check#")
+    yield from (b"#drive 2", b" #drive 2", b"drive 2 # two", b"drive #2", b"drive# 2")
 
 
 def unknown_commands():
@@ -51,6 +54,11 @@ def unknown_commands():
     for word in (b"At", b"AT", b"a", b"t", b"ta", b"att", b"cat", b"at,", b"at2", b"at\x00", b"at\x0b", b"\xffat"):
         yield word + b" 2"
     for word in (
+        b"Drive", b"DRIVE", b"drivE", b"driv", b"rive", b"d", b"drives", b"dirve", b"drive,", b"drive2", b"drive\x00",
+        b"drive\x0b", b"\xffdrive",
+    ):
+        yield word + b" 2"
+    for word in (
         b"Check", b"CHECK", b"checK", b"chec", b"heck", b"checks", b"check,", b"check1", b"chekc", b"check\x00",
         b"check\x0c", b"\xa0check",
     ):
@@ -59,7 +67,7 @@ def unknown_commands():
     yield b"Piece"
     yield b"pieces one two"
     yield b"piece1 1 256 256"
-    yield from (b"At", b"at2", b"att x y", b"Check all")
+    yield from (b"At", b"at2", b"att x y", b"Check all", b"Drive", b"drive2", b"drives x y")
 
 
 def counts_of_words():
@@ -67,9 +75,12 @@ def counts_of_words():
     yield from (b"piece 1 1 256 256 256", b"piece 1 1 256 256 256 256", b"piece 1 1 256 256 x")
     yield from (b"at", b"at ", b"at\t\r", b"at 2 3", b"at 2 2 2", b"at 2 x", b"check 2", b"check all", b"check 0 1 2")
     yield from (b"check check", b"check knots", b"at at 2")
+    yield from (b"drive", b"drive ", b"drive\t\r", b"drive 2 3", b"drive 2 2 2", b"drive 2 x")
+    yield from (b"drive drive 2", b"drive at 2", b"at drive 2")
     # The count is asked before the numbers.
     yield from (b"piece x", b"piece 1.5 1 256", b"piece x 1 256 256 256", b"piece piece")
     yield from (b"at x y", b"at 2147483648 2", b"at x 2147483648 2")
+    yield from (b"drive x y", b"drive 2147483648 2", b"drive x 2147483648 2")
 
 
 def each_number(word):
@@ -77,7 +88,7 @@ def each_number(word):
     good = [b"1", b"1", b"256", b"256"]
     for place in range(4):
         yield b" ".join([b"piece", *good[:place], word, *good[place + 1 :]])
-    yield b"at " + word
+    yield from (b"at " + word, b"drive " + word)
 
 
 def not_decimal():
@@ -124,7 +135,7 @@ def first_fault():
     yield b"piece 0 1 256 x"
     yield b"piece 1025 1048577 0 2147483648"
     yield b"piece 0 9223372036854775808 0 0"
-    yield b"at -4 6"
+    yield from (b"at -4 6", b"drive -4 6")
 
 
 def long_lines():
