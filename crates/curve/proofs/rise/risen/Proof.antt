@@ -98,12 +98,17 @@ mul-floor-div-3 c = fits (given (c .before .before .before .before .before)) (se
 floor-div-requires : tie.Need-floor-div-requires
 floor-div-requires c κs = search needs
 
+-- what was divided by what
+quotient : (c : tie.After-floor-div)
+    → let s = c .before .before .before .before .before .before .args in Quotient (c .before .numerator .result) (denominator unit (s .h)) (c .floor-div .result)
+quotient c =
+    let s = c .before .before .before .before .before .before in
+    plainly₂ (known (c .before .numerator .result) _ (cubic-within (c .before)) ∷ given s) (λ (n d : ℤ). Quotient n d (c .floor-div .result)) (c .floor-div .ensures) (search arguments depth 30 fits 9000) tt
+
 returns : tie.Need-returns
 returns c =
-    let s = c .before .before .before .before .before .before in
-    returned w64 (c .floor-div .ok)
-    (plainly₂ (known (c .before .numerator .result) _ (cubic-within (c .before)) ∷ given s) (λ (n d : ℤ). Quotient n d (c .floor-div .result)) (c .floor-div .ensures) (search arguments depth 30 fits 9000) tt .is
-    ∙ ap (λ (v : ℤ). floorOf v (denominator unit (s .args .h))) (is-cubic (c .before)))
+    let s = c .before .before .before .before .before .before .args in
+    returned w64 (c .floor-div .ok) (quotient c .is ∙ ap (λ (v : ℤ). floorOf v (denominator unit (s .h))) (is-cubic (c .before)))
 
 pub risen-spec : {M : Type 1} → statement M
 risen-spec =
