@@ -89,6 +89,12 @@ rise c =
     let r = held w32 _ (right (c .before)) in
     returned w64 (c .difference .ok) (c .difference .ensures ∙ plain-is {Γ = l ∷ r ∷ []} (search code depth 30 fits 9000) tt)
 
+slope : (c : tie.After-m) → let s = c .before .before .before .before .before .args in toZ w32 (ofZ w32 (entry (s .slopes .now) (s .i))) ≡ entry (s .slopes .now) (s .i)
+slope c = toZ-ofZ (record { sfits = c .m .given })
+
+next-slope : (c : tie.After-n) → let s = c .before .before .before .before .before .before .args in toZ w32 (ofZ w32 (entry (s .slopes .now) (s .i + 1))) ≡ entry (s .slopes .now) (s .i + 1)
+next-slope c = toZ-ofZ (record { sfits = c .n .given })
+
 place : (c : tie.After-difference2) → let s = c .before .before .before .before .before .before .before .before .args in toZ w64 (ofZ w64 (c .difference2 .result)) ≡ s .position -ℤ entry (s .knots .now) (s .i)
 place c =
     let s = c .before .before .before .before .before .before .before .before in
@@ -109,8 +115,8 @@ returns c =
       left-is = left-is;
       h-is = width (at-rise .before .before);
       z-is = z-is;
-      m-is = toZ-ofZ (record { sfits = at-m .m .given });
-      n-is = toZ-ofZ (record { sfits = at-n .n .given });
+      m-is = slope at-m;
+      n-is = next-slope at-n;
       t-is = place c;
       right-fits = subst (λ (v : ℤ). SFits w32 v) (sym (ap₂ _+ℤ_ left-is z-is ∙ across (entry (s .values .now) (s .i)) (entry (s .values .now) (s .i + 1)))) (right (at-rise .before));
     }
