@@ -64,6 +64,13 @@ module _ {H : ℕ → ℕ → Type 0} where
   behind [] e g = g
   behind (c ∷ order) e g = behind order e (rest e g)
 
+  -- a cause that does not hold might as well not be asked
+  pub unasked : (order : List ℕ) (d : ℕ) (more : List ℕ) {n p : ℕ} → ((q : ℕ) → H d q → ⊥) → Given H (order ++ d ∷ more) n p → Given H (order ++ more) n p
+  unasked [] d more f (refused h e) = absurd (f _ h)
+  unasked [] d more f (passed e g) = g
+  unasked (c ∷ order) d more f (refused h e) = refused h e
+  unasked (c ∷ order) d more f (passed e g) = passed e (unasked order d more f g)
+
 -- ---- an order is asked of its own causes alone
 
 -- H and K say the same of the causes of an order

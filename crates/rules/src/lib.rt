@@ -28,6 +28,8 @@ pub const RISE: u32 = 4;
 pub const BEND: u32 = 5;
 // A position before the first or after the last knot.
 pub const POSITION: u32 = 6;
+// No point with this number.
+pub const POINT: u32 = 7;
 // A piece too large for the exact float answer.
 pub const SIZE: u32 = 8;
 

@@ -45,6 +45,11 @@ module _ (f : ℕ → ℤ) (lo : ℕ) (list : List ℤ) where
       before : entry (put f lo c list) j ≡ f j → j < lo + c → entry (put f lo (suc c) list) j ≡ f j
       before e b = getD-set-other (put f lo c list) (lo + c) j (f (lo + c)) (pos 0) (λ e. omega arith) ∙ e
 
+  pub put-outside : (c j : ℕ) → ((lo ≤ j) × (j < lo + c) → ⊥) → entry (put f lo c list) j ≡ entry list j
+  put-outside zero j out = refl
+  put-outside (suc c) j out =
+      getD-set-other (put f lo c list) (lo + c) j (f (lo + c)) (pos 0) (λ (e : j ≡ lo + c). out (omega arith, omega arith)) ∙ put-outside c j (λ b. out (b .0, omega (arith, b .1)))
+
 -- ---- a list written from its start to its end
 
 pub tab-length : (n : ℕ) (f : ℕ → ℤ) → length (tab n f) ≡ n

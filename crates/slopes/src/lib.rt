@@ -3,4 +3,5 @@ mod point;
 mod rule;
 mod whole;
 
+pub use point::renew;
 pub use whole::build;

@@ -26,7 +26,7 @@ fn slope(knots: &[i32], values: &[i32], i: usize) -> i32
 }
 
 // Puts the slopes of the points from `from` up to `to` into their places.
-pub(crate) fn renew(knots: &[i32], values: &[i32], slopes: &mut [i32], from: usize, to: usize)
+pub fn renew(knots: &[i32], values: &[i32], slopes: &mut [i32], from: usize, to: usize)
     requires { ⌜ Points (now knots) (now values) ⌝ }
     requires { ⌜ length (now slopes) ≡ length (now knots) ⌝ }
     requires { ⌜ from ≤ to ⌝ }

@@ -19,7 +19,7 @@ pub record Points (ks vs : List ℤ) : Type 0 where
   pub widths : (i : ℕ) → i + 1 < length ks → WidthWithin (step ks i)
   pub rises : (i : ℕ) → i + 1 < length ks → RiseWithin (step vs i)
 
-at-most : {m n : ℕ} → (m < n → ⊥) → n ≤ m
+pub at-most : {m n : ℕ} → (m < n → ⊥) → n ≤ m
 at-most f = omega arith
 
 equal : {m n : ℕ} → ((m ≡ n → ⊥) → ⊥) → m ≡ n

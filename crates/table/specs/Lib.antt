@@ -1,3 +1,5 @@
 pub mod Accepted
+pub mod AfterChange
+pub mod Changed
 pub mod Search
 pub mod Table

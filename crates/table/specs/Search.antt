@@ -19,10 +19,10 @@ numberOf Rise = 4
 numberOf Bend = 5
 
 -- what the points have to be before it is asked: only pieces within the limits can be judged
-abbrev pub Askable : Cause → (ks vs : List ℤ) → Type 0
-Askable Width ks vs = Unit
-Askable Rise ks vs = Unit
-Askable Bend ks vs = Points ks vs
+abbrev pub Askable : Cause → Table → Type 0
+Askable Width t = Unit
+Askable Rise t = Unit
+Askable Bend t = Points (t .knots) (t .values)
 
 -- what piece i has to be
 abbrev pub Sound : Cause → Table → ℕ → Type 0
@@ -52,10 +52,11 @@ module _ {t : Table} where
 0<-number Rise = omega arith
 0<-number Bend = omega arith
 
-module _ (c : Cause) {t : Table} {i : ℕ} (before : (j : ℕ) → j < i → Sound c t j) where
-  pub none-found : points t - i < 2 → Found c t 0 0
-  none-found l = passed (λ q h. not-sound c h .1 (before q (omega (arith, not-sound c h .0)))) done
+module _ (c : Cause) {t : Table} {i : ℕ} (before : (j : ℕ) → j < i → Sound c t j) {n : ℕ} (many : points t ≡ n) where
+  pub none-found : n - i < 2 → Found c t 0 0
+  none-found l = passed (λ q h. not-sound c h .1 (before q (omega (arith, not-sound c h .0, many)))) done
 
-  pub found-here : {number : ℕ} → number ≡ numberOf c → i + 1 < points t → (Sound c t i → ⊥) → Found c t number i
+  pub found-here : {number : ℕ} → number ≡ numberOf c → i + 1 < n → (Sound c t i → ⊥) → Found c t number i
   found-here e l f =
-      subst (λ (n : ℕ). Found c t n i) (sym e) (refused-by (0<-number c) (faulty c l f) (λ q k h. not-sound c h .1 (before q k)))
+      subst (λ (m : ℕ). Found c t m i) (sym e)
+      (refused-by (0<-number c) (faulty c (subst (λ (m : ℕ). i + 1 < m) (sym many) l) f) (λ q k h. not-sound c h .1 (before q k)))

@@ -1,11 +1,13 @@
-// The one search for a faulty piece, whatever the cause.
+// The one search for a faulty piece, whatever the cause, in a table as it would be after a change.
 ghost use mathlib.Core.Path.{_≡_};
 ghost use Prim.Native.Nat.{_+_, _<_};
 ghost use lib.ListN.{length};
 ghost use Rattle.integers.specs.Promise.{Decided};
 ghost use Rattle.table.specs.Table.{table, SameLengths};
+ghost use Rattle.table.specs.Changed.{changedBy};
 ghost use Rattle.table.specs.Search.{numberOf, Askable, Sound, Found};
-use crate::pieces;
+use crate::changed;
+use crate::changed::Change;
 use rules::Refusal;
 
 // What is asked of each piece.
@@ -25,18 +27,25 @@ fn number(cause: Cause) -> u32
     }
 }
 
-fn is_sound(cause: Cause, knots: &[i32], values: &[i32], slopes: &[i32], i: usize) -> bool
+fn is_sound(
+    cause: Cause,
+    knots: &[i32],
+    values: &[i32],
+    slopes: &[i32],
+    change: Change,
+    i: usize,
+) -> bool
     requires { ⌜ SameLengths (table (now knots) (now values) (now slopes)) ⌝ }
-    requires { ⌜ Askable cause (now knots) (now values) ⌝ }
+    requires { ⌜ Askable cause (changedBy change (table (now knots) (now values) (now slopes))) ⌝ }
     requires { ⌜ i + 1 < length (now knots) ⌝ }
-    ensures { λ r. ⌜ Decided (Sound cause (table (now (knots .entry)) (now (values .entry)) (now (slopes .entry))) i) r ⌝ }
+    ensures { λ r. ⌜ Decided (Sound cause (changedBy change (table (now (knots .entry)) (now (values .entry)) (now (slopes .entry)))) i) r ⌝ }
 {
     match cause {
-        Cause::Width => rules::width_within(pieces::step(knots, i)),
-        Cause::Rise => rules::rise_within(pieces::step(values, i)),
+        Cause::Width => rules::width_within(changed::step(knots, change.point, change.knot, i)),
+        Cause::Rise => rules::rise_within(changed::step(values, change.point, change.value, i)),
         Cause::Bend => piece::is_monotone(
-            pieces::step(knots, i),
-            pieces::step(values, i),
+            changed::step(knots, change.point, change.knot, i),
+            changed::step(values, change.point, change.value, i),
             slopes[i],
             slopes[i + 1],
         ),
@@ -44,10 +53,16 @@ fn is_sound(cause: Cause, knots: &[i32], values: &[i32], slopes: &[i32], i: usiz
 }
 
 // The refusal by this cause, at the first piece at which it holds, or none.
-pub(crate) fn first(cause: Cause, knots: &[i32], values: &[i32], slopes: &[i32]) -> Refusal
+pub(crate) fn first(
+    cause: Cause,
+    knots: &[i32],
+    values: &[i32],
+    slopes: &[i32],
+    change: Change,
+) -> Refusal
     requires { ⌜ SameLengths (table (now knots) (now values) (now slopes)) ⌝ }
-    requires { ⌜ Askable cause (now knots) (now values) ⌝ }
-    ensures { λ r. ⌜ Found cause (table (now (knots .entry)) (now (values .entry)) (now (slopes .entry))) (r .number) (r .place) ⌝ }
+    requires { ⌜ Askable cause (changedBy change (table (now knots) (now values) (now slopes))) ⌝ }
+    ensures { λ r. ⌜ Found cause (changedBy change (table (now (knots .entry)) (now (values .entry)) (now (slopes .entry)))) (r .number) (r .place) ⌝ }
 {
     let mut i = 0;
     let at = loop {
@@ -57,7 +72,7 @@ pub(crate) fn first(cause: Cause, knots: &[i32], values: &[i32], slopes: &[i32])
                 place: 0,
             };
         }
-        if !is_sound(cause, knots, values, slopes, i) {
+        if !is_sound(cause, knots, values, slopes, change, i) {
             break i;
         }
         i += 1;

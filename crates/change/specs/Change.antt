@@ -1,0 +1,34 @@
+-- "Changing a point" of the exact rules, for a whole table. Whoever believes the promise of `point` believes this file and what it cites: the points as they would be
+-- and the causes of a refusal, the slopes that are built, and the refusals.
+use mathlib.Core.Path.{_≡_}
+use mathlib.Core.Bool.{Bool, cond, _||_}
+use mathlib.Core.List.{List}
+use Prim.Native.Nat.{ℕ, _+_}
+use lib.Dec.{eqb}
+use lib.IntN.{ℤ}
+use lib.ListN.{length}
+use Rattle.rules.specs.Refusals.{Given, afterwards}
+use Rattle.table.specs.declared.changed.Change.{Change}
+use Rattle.table.specs.Table.{Table, entry}
+use Rattle.table.specs.Changed.{changedBy, HoldsAfter, changeOrder}
+use Rattle.slopes.specs.Slopes.{tab, builtSlope}
+
+-- "slopes k−1, k and k+1, where they exist": whether slope i is one of them
+abbrev pub beside : (k i : ℕ) → Bool
+beside k i = eqb (i + 1) k || (eqb i k || eqb i (k + 1))
+
+-- "No other entry changes": the list with f i at each of these places, and elsewhere as it was
+abbrev pub renewed : (k : ℕ) → (ℕ → ℤ) → List ℤ → List ℤ
+renewed k f list = tab (length list) (λ i. cond (beside k i) (f i) (entry list i))
+
+-- "are those a build of the new points gives them"
+abbrev pub renewedSlopes : Change → Table → List ℤ
+renewedSlopes c t = renewed (c .point) (builtSlope (changedBy c t .knots) (changedBy c t .values)) (t .slopes)
+
+-- What `point` answers and leaves: the first cause of a refusal in the order 1, 2, 7, 3, 4 and the three lists as they were; or none, "the point holds them" (the new knot
+-- and value), and the slopes are renewed.
+pub record Changed (c : Change) (before after : Table) (number place : ℕ) : Type 0 where
+  pub refusal : Given (HoldsAfter c before) changeOrder number place
+  pub knots : after .knots ≡ afterwards number (before .knots) (changedBy c before .knots)
+  pub values : after .values ≡ afterwards number (before .values) (changedBy c before .values)
+  pub slopes : after .slopes ≡ afterwards number (before .slopes) (renewedSlopes c before)

@@ -1,0 +1,38 @@
+// The slopes that depend on a point: its own, and those of the points beside it.
+ghost use mathlib.Core.Path.{_≡_};
+ghost use Prim.Native.Nat.{_+_, _-_, _<_, min};
+ghost use lib.ListN.{length};
+ghost use Rattle.table.specs.Accepted.{Points};
+ghost use Rattle.slopes.specs.Slopes.{builtSlope};
+ghost use Rattle.change.specs.Change.{renewed};
+
+// The first of them.
+fn first(k: usize) -> usize
+    ensures { λ r. ⌜ r ≡ k - 1 ⌝ }
+{
+    if k == 0 {
+        return 0;
+    }
+    k - 1
+}
+
+// The one behind the last of them, in a table of n points.
+fn end(k: usize, n: usize) -> usize
+    requires { ⌜ k < n ⌝ }
+    ensures { λ r. ⌜ r ≡ min (k + 2) n ⌝ }
+{
+    if n - k < 2 {
+        return n;
+    }
+    k + 2
+}
+
+// Puts them into their places, as a build does.
+pub fn renew(knots: &[i32], values: &[i32], slopes: &mut [i32], k: usize)
+    requires { ⌜ Points (now knots) (now values) ⌝ }
+    requires { ⌜ length (now slopes) ≡ length (now knots) ⌝ }
+    requires { ⌜ k < length (now knots) ⌝ }
+    ensures { λ _. ⌜ now (slopes .exit) ≡ renewed k (builtSlope (now (knots .entry)) (now (values .entry))) (now (slopes .entry)) ⌝ }
+{
+    slopes::renew(knots, values, slopes, first(k), end(k, knots.len()));
+}

@@ -1,0 +1,90 @@
+-- Laws of the points as they would be after a change.
+use mathlib.Core.Path.{_≡_, refl, sym, _∙_, ap₂, subst}
+use mathlib.Core.List.{List, [], _∷_}
+use Prim.Native.Nat.{ℕ, suc, _≤_, _<_}
+use native.Mathlib.Omega.{arith}
+use lib.Dec.{T}
+use lib.IntN.{ℤ}
+use lib.ListN.{length, length-set}
+use lib.Seq.{set-out}
+use Rattle.rules.specs.Limits.{CountWithin}
+use Rattle.rules.specs.Refusals.{Given, done, refused, passed}
+use Rattle.rules.specs.Order.{Same, none, also, without, one-more-cause, other-way, carried, unasked, clear, behind}
+use Rattle.table.specs.declared.changed.Change.{Change}
+use Rattle.table.specs.Table.{Table, table, points, SameLengths, Holds, lengths-differ, too-few-or-many, buildOrder}
+use Rattle.table.specs.Changed.{changedBy, HoldsAfter, of-points, no-such-point, changeOrder}
+use Rattle.table.specs.Accepted.{Points, at-most, same-lengths, accepted-points}
+
+-- a point that is not there changes nothing
+pub changed-nowhere : (c : Change) (t : Table) → points t ≤ c .point → length (t .values) ≡ points t → changedBy c t ≡ t
+changed-nowhere c t l e =
+    ap₂ (λ (ks vs : List ℤ). table ks vs (t .slopes)) (set-out (t .knots) (c .point) (c .knot) l)
+    (set-out (t .values) (c .point) (c .value) (subst (λ (n : ℕ). n ≤ c .point) (sym e) l))
+
+module _ (c : Change) (t : Table) where
+  as-many : points (changedBy c t) ≡ points t
+  as-many = length-set (t .knots) (c .point) (c .knot)
+
+  as-many-values : length (changedBy c t .values) ≡ length (t .values)
+  as-many-values = length-set (t .values) (c .point) (c .value)
+
+  lengths-then : SameLengths t → SameLengths (changedBy c t)
+  lengths-then s = record { values = as-many-values ∙ s .values ∙ sym as-many; slopes = s .slopes ∙ sym as-many }
+
+  lengths-before : SameLengths (changedBy c t) → SameLengths t
+  lengths-before s = record { values = sym as-many-values ∙ s .values ∙ as-many; slopes = s .slopes ∙ as-many }
+
+  -- 1 and 2 are the same before and after
+  same-lists : Same (Holds t) (Holds (changedBy c t)) (1 ∷ 2 ∷ [])
+  same-lists = also differ-then differ-before (also count-then count-before none)
+    where
+      differ-then : (p : ℕ) → Holds t 1 p → Holds (changedBy c t) 1 p
+      differ-then p (lengths-differ f) = lengths-differ (λ s. f (lengths-before s))
+
+      differ-before : (p : ℕ) → Holds (changedBy c t) 1 p → Holds t 1 p
+      differ-before p (lengths-differ f) = lengths-differ (λ s. f (lengths-then s))
+
+      count-then : (p : ℕ) → Holds t 2 p → Holds (changedBy c t) 2 p
+      count-then p (too-few-or-many f) = too-few-or-many (λ w. f (subst CountWithin as-many w))
+
+      count-before : (p : ℕ) → Holds (changedBy c t) 2 p → Holds t 2 p
+      count-before p (too-few-or-many f) = too-few-or-many (λ w. f (subst CountWithin (sym as-many) w))
+
+  -- the causes beside 7 are those of the points
+  points-alone : (d p : ℕ) → (d ≡ 7 → ⊥) → HoldsAfter c t d p → Holds (changedBy c t) d p
+  points-alone d p f (of-points h) = h
+  points-alone d p f (no-such-point g) = absurd (f refl)
+
+  pub beside-7 : (order : List ℕ) → T (without 7 order) → Same (Holds (changedBy c t)) (HoldsAfter c t) order
+  beside-7 order = one-more-cause 7 order (λ _ _. of-points) points-alone
+
+  pub as-counted : {n p : ℕ} → Given (Holds t) (1 ∷ 2 ∷ []) n p → Given (HoldsAfter c t) (1 ∷ 2 ∷ []) n p
+  as-counted g = carried (beside-7 (1 ∷ 2 ∷ []) tt) (carried same-lists g)
+
+  pub as-stepped : {n p : ℕ} → Given (Holds (changedBy c t)) (3 ∷ 4 ∷ []) n p → Given (HoldsAfter c t) (3 ∷ 4 ∷ []) n p
+  as-stepped = carried (beside-7 (3 ∷ 4 ∷ []) tt)
+
+  -- 7 by itself
+  pub refused-nowhere : points t ≤ c .point → Given (HoldsAfter c t) (7 ∷ []) 7 0
+  refused-nowhere l = refused (no-such-point (λ (k : c .point < points t). omega arith)) (λ _ l _. absurd (omega (arith, l)))
+
+  there : c .point < points t → (p : ℕ) → HoldsAfter c t 7 p → ⊥
+  there l p (no-such-point f) = f l
+
+  pub taken-there : c .point < points t → Given (HoldsAfter c t) (7 ∷ []) 0 0
+  taken-there l = passed (there l) done
+
+  -- where the point is there, the order is that of a build of the points as they would be
+  pub as-a-build : {n p : ℕ} → c .point < points t → Given (HoldsAfter c t) changeOrder n p → Given (Holds (changedBy c t)) buildOrder n p
+  as-a-build l g = carried (other-way (beside-7 buildOrder tt)) (unasked (1 ∷ 2 ∷ []) 7 (3 ∷ 4 ∷ []) (there l) g)
+
+  -- what is known where nothing is refused
+  module _ {n p : ℕ} (e : n ≡ 0) (g : Given (HoldsAfter c t) changeOrder n p) where
+    pub point-there : c .point < points t
+    point-there = at-most (λ (l : points t < suc (c .point)). clear e (behind (1 ∷ 2 ∷ []) e g) 0 (no-such-point (λ (k : c .point < points t). omega arith)))
+
+    pub accepted-then : Points (changedBy c t .knots) (changedBy c t .values)
+    accepted-then = accepted-points e (as-a-build point-there g)
+
+    pub equally-long : SameLengths t
+    equally-long = lengths-before (same-lengths (clear e (as-a-build point-there g)))
