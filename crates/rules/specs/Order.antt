@@ -71,6 +71,11 @@ module _ {H : ℕ → ℕ → Type 0} where
   unasked (c ∷ order) d more f (refused h e) = refused h e
   unasked (c ∷ order) d more f (passed e g) = passed e (unasked order d more f g)
 
+  pub asked-too : (order : List ℕ) (d : ℕ) (more : List ℕ) {n p : ℕ} → ((q : ℕ) → H d q → ⊥) → Given H (order ++ more) n p → Given H (order ++ d ∷ more) n p
+  asked-too [] d more f g = passed f g
+  asked-too (c ∷ order) d more f (refused h e) = refused h e
+  asked-too (c ∷ order) d more f (passed e g) = passed e (asked-too order d more f g)
+
 -- ---- an order is asked of its own causes alone
 
 -- H and K say the same of the causes of an order

@@ -9,7 +9,7 @@ use lib.ListN.{length, length-set}
 use lib.Seq.{set-out}
 use Rattle.rules.specs.Limits.{CountWithin}
 use Rattle.rules.specs.Refusals.{Given, done, refused, passed}
-use Rattle.rules.specs.Order.{Same, none, also, without, one-more-cause, other-way, carried, unasked, clear, behind}
+use Rattle.rules.specs.Order.{Same, none, also, without, one-more-cause, other-way, carried, unasked, asked-too, clear, behind}
 use Rattle.table.specs.declared.changed.Change.{Change}
 use Rattle.table.specs.Table.{Table, table, points, SameLengths, Holds, lengths-differ, too-few-or-many, buildOrder}
 use Rattle.table.specs.Changed.{changedBy, HoldsAfter, of-points, no-such-point, changeOrder}
@@ -51,7 +51,7 @@ module _ (c : Change) (t : Table) where
       count-before p (too-few-or-many f) = too-few-or-many (λ w. f (subst CountWithin (sym as-many) w))
 
   -- the causes beside 7 are those of the points
-  points-alone : (d p : ℕ) → (d ≡ 7 → ⊥) → HoldsAfter c t d p → Holds (changedBy c t) d p
+  pub points-alone : (d p : ℕ) → (d ≡ 7 → ⊥) → HoldsAfter c t d p → Holds (changedBy c t) d p
   points-alone d p f (of-points h) = h
   points-alone d p f (no-such-point g) = absurd (f refl)
 
@@ -77,6 +77,9 @@ module _ (c : Change) (t : Table) where
   -- where the point is there, the order is that of a build of the points as they would be
   pub as-a-build : {n p : ℕ} → c .point < points t → Given (HoldsAfter c t) changeOrder n p → Given (Holds (changedBy c t)) buildOrder n p
   as-a-build l g = carried (other-way (beside-7 buildOrder tt)) (unasked (1 ∷ 2 ∷ []) 7 (3 ∷ 4 ∷ []) (there l) g)
+
+  pub as-changed : {n p : ℕ} → c .point < points t → Given (Holds (changedBy c t)) buildOrder n p → Given (HoldsAfter c t) changeOrder n p
+  as-changed l g = asked-too (1 ∷ 2 ∷ []) 7 (3 ∷ 4 ∷ []) (there l) (carried (beside-7 buildOrder tt) g)
 
   -- what is known where nothing is refused
   module _ {n p : ℕ} (e : n ≡ 0) (g : Given (HoldsAfter c t) changeOrder n p) where

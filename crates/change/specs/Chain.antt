@@ -1,0 +1,65 @@
+-- "Change one point of a table whose slopes we built, any number of times, refused changes among them: the slopes then equal those built afresh."
+use mathlib.Core.Path.{_≡_, refl, sym, _∙_, ap, subst₂}
+use mathlib.Core.List.{List, [], _∷_, _++_}
+use Prim.Native.Nat.{ℕ, zero, suc}
+use lib.IntN.{ℤ}
+use lib.ListN.{length}
+use Rattle.table.specs.declared.changed.Change.{Change}
+use Rattle.table.specs.Table.{Table, table, points}
+use Rattle.table.specs.Accepted.{Points, accepted-points, points-accepted}
+use Rattle.table.specs.AfterChange.{accepted-then}
+use Rattle.slopes.specs.Slopes.{Built}
+use Rattle.change.specs.Change.{Changed}
+use Rattle.change.specs.StaysBuilt.{AllBuilt, all-are-then-as-built}
+
+-- A list of changes, made one after another: each of the table that the one before it left, with whatever it answers.
+pub data Chain : List Change → (before after : Table) → Type 0 where
+  none : {t : Table} → Chain [] t t
+  next : {c : Change} {cs : List Change} {t u v : Table} {number place : ℕ} → Changed c t u number place → Chain cs u v → Chain (c ∷ cs) t v
+
+-- A table whose points are accepted and whose slopes are all as built from them.
+pub record BuiltTable (t : Table) : Type 0 where
+  pub limits : Points (t .knots) (t .values)
+  pub slopes : AllBuilt t
+
+-- a build leaves one
+pub by-a-build : {knots values before after : List ℤ} {place : ℕ} → Built knots values before after 0 place → BuiltTable (table knots values after)
+by-a-build b = record { limits = accepted-points refl (b .refusal); slopes = record { built = b .slopes } }
+
+-- and its slopes equal those built afresh: a build of its points, over any list of as many slopes, is not refused and leaves just these
+pub built-afresh : {t : Table} → BuiltTable t → (before : List ℤ) → length before ≡ points t → Built (t .knots) (t .values) before (t .slopes) 0 0
+built-afresh b before e = record { refusal = points-accepted (b .limits) e; slopes = b .slopes .built }
+
+-- a change leaves one, made or refused
+after-a-change : {c : Change} {t u : Table} {number place : ℕ} → Changed c t u number place → BuiltTable t → BuiltTable u
+after-a-change {c} {t} {number = zero} change b =
+    record {
+      limits = subst₂ Points (sym (change .knots)) (sym (change .values)) (accepted-then c t refl (change .refusal));
+      slopes = all-are-then-as-built change (b .slopes);
+    }
+after-a-change {number = suc number} change b =
+    record { limits = subst₂ Points (sym (change .knots)) (sym (change .values)) (b .limits); slopes = all-are-then-as-built change (b .slopes) }
+
+after-a-chain : {cs : List Change} {t u : Table} → Chain cs t u → BuiltTable t → BuiltTable u
+after-a-chain none b = b
+after-a-chain (next change chain) b = after-a-chain chain (after-a-change change b)
+
+-- THE CHAIN: a table is built, any list of changes is made, and the slopes that then stand there are those of a fresh build of the points that then stand there.
+pub the-slopes-equal-those-built-afresh : {knots values before slopes again : List ℤ} {place : ℕ} {cs : List Change} {t : Table}
+    → Built knots values before slopes 0 place → Chain cs (table knots values slopes) t → length again ≡ points t → Built (t .knots) (t .values) again (t .slopes) 0 0
+the-slopes-equal-those-built-afresh {again = again} build chain e = built-afresh (after-a-chain chain (by-a-build build)) again e
+
+-- ---- no change of a list is left out: the last is made of the table that the others left, and a list is made part by part
+
+pub record MadeLast (cs : List Change) (c : Change) (before after : Table) : Type 0 where
+  pub others : Table
+  pub chain : Chain cs before others
+  pub number : ℕ
+  pub place : ℕ
+  pub change : Changed c others after number place
+
+pub the-last-is-made : (cs : List Change) {c : Change} {t u : Table} → Chain (cs ++ c ∷ []) t u → MadeLast cs c t u
+the-last-is-made [] (next change none) = record { others = _; chain = none; number = _; place = _; change = change }
+the-last-is-made (d ∷ cs) (next change chain) =
+    let m = the-last-is-made cs chain in
+    record { others = m .others; chain = next change (m .chain); number = m .number; place = m .place; change = m .change }

@@ -1,0 +1,63 @@
+-- "Figures to hold against it" of the exact rules, as far as they speak of changes: the promise of `point` gives them.
+use mathlib.Core.Path.{refl}
+use mathlib.Core.List.{[], _∷_}
+use Prim.Native.Nat.{ℕ, zero, suc, _+_, _<_}
+use native.Mathlib.Omega.{arith}
+use lib.IntN.{pos, negsuc}
+use lib.Signed.{leZ-yes}
+use Rattle.rules.specs.Limits.{CountWithin, WidthWithin, RiseWithin}
+use Rattle.rules.specs.Refusals.{refused, passed}
+use Rattle.table.specs.declared.changed.Change.{Change}
+use Rattle.table.specs.Table.{Table, table, step, Holds, width-outside}
+use Rattle.table.specs.Accepted.{same-length-passes, count-passes, points-accepted}
+use Rattle.table.specs.Changed.{changedBy}
+use Rattle.table.specs.AfterChange.{as-changed}
+use Rattle.change.specs.Change.{Changed}
+
+count : CountWithin 4
+count = record { low = omega arith; high = omega arith }
+
+-- "Points (0,0), (1,1), (2,4), (3,7) have slopes 256, 384, 768, 768."
+abbrev four : Table
+four = table (pos 0 ∷ pos 1 ∷ pos 2 ∷ pos 3 ∷ []) (pos 0 ∷ pos 1 ∷ pos 4 ∷ pos 7 ∷ []) (pos 256 ∷ pos 384 ∷ pos 768 ∷ pos 768 ∷ [])
+
+-- "Point 0 changed to (0,−2): 768, 768, 768, 768."
+abbrev lowered : Table
+lowered = table (pos 0 ∷ pos 1 ∷ pos 2 ∷ pos 3 ∷ []) (negsuc 1 ∷ pos 1 ∷ pos 4 ∷ pos 7 ∷ []) (pos 768 ∷ pos 768 ∷ pos 768 ∷ pos 768 ∷ [])
+
+pub point-0-lowered : Changed (record { point = 0; knot = pos 0; value = negsuc 1 }) four lowered 0 0
+point-0-lowered =
+    record {
+      refusal = as-changed (record { point = 0; knot = pos 0; value = negsuc 1 }) four (omega arith) (points-accepted (record { lengths = refl; count = count; widths = widths; rises = rises }) refl);
+      knots = refl;
+      values = refl;
+      slopes = refl;
+    }
+  where
+    widths : (i : ℕ) → i + 1 < 4 → WidthWithin (step (lowered .knots) i)
+    widths zero l = record { low = leZ-yes tt; high = leZ-yes tt }
+    widths (suc zero) l = record { low = leZ-yes tt; high = leZ-yes tt }
+    widths (suc (suc zero)) l = record { low = leZ-yes tt; high = leZ-yes tt }
+    widths (suc (suc (suc i))) l = absurd (omega (arith, l))
+
+    rises : (i : ℕ) → i + 1 < 4 → RiseWithin (step (lowered .values) i)
+    rises zero l = record { low = leZ-yes tt; high = leZ-yes tt }
+    rises (suc zero) l = record { low = leZ-yes tt; high = leZ-yes tt }
+    rises (suc (suc zero)) l = record { low = leZ-yes tt; high = leZ-yes tt }
+    rises (suc (suc (suc i))) l = absurd (omega (arith, l))
+
+-- "Point 1 changed to (2,1) instead: refused by 3 at place 1."
+pub point-1-moved-onto-point-2 : Changed (record { point = 1; knot = pos 2; value = pos 1 }) four four 3 1
+point-1-moved-onto-point-2 =
+    record {
+      refusal =
+          as-changed (record { point = 1; knot = pos 2; value = pos 1 }) four (omega arith)
+          (passed (same-length-passes (record { values = refl; slopes = refl })) (passed (count-passes count) (refused (width-outside {i = 1} (omega arith) (λ w. w .low .le)) before)));
+      knots = refl;
+      values = refl;
+      slopes = refl;
+    }
+  where
+    before : (q : ℕ) → q < 1 → Holds (changedBy (record { point = 1; knot = pos 2; value = pos 1 }) four) 3 q → ⊥
+    before zero l (width-outside m f) = f (record { low = leZ-yes tt; high = leZ-yes tt })
+    before (suc q) l h = absurd (omega (arith, l))

@@ -1,0 +1,57 @@
+-- "Each accepted change puts the new knot and value there, renews the slopes at it and beside it, and touches nothing else."
+use mathlib.Core.Path.{_≡_, refl, sym, _∙_, ap, ap₂}
+use mathlib.Core.Bool.{Bool, true, false, cond}
+use mathlib.Core.List.{List}
+use Prim.Native.Nat.{ℕ, _+_, _≤_, _<_}
+use native.Mathlib.Omega.{arith}
+use lib.IntN.{ℤ, pos}
+use lib.ListN.{length, length-set}
+use lib.Seq.{getD-set-same, getD-set-other}
+use Rattle.table.specs.declared.changed.Change.{Change}
+use Rattle.table.specs.Table.{Table, entry, points}
+use Rattle.table.specs.Changed.{changedBy}
+use Rattle.table.specs.AfterChange.{point-there, equally-long}
+use Rattle.slopes.specs.Slopes.{builtSlope}
+use Rattle.slopes.specs.Put.{tab-length, tab-entry}
+use Rattle.change.specs.Change.{beside, renewedSlopes, Changed}
+use Rattle.change.specs.Beside.{Near, beside-near, beside-far}
+
+module _ {c : Change} {t u : Table} {place : ℕ} (change : Changed c t u 0 place) where
+  there : c .point < points t
+  there = point-there c t refl (change .refusal)
+
+  in-values : c .point < length (t .values)
+  in-values = omega (arith, there, equally-long c t refl (change .refusal) .values)
+
+  pub the-point-holds-the-new-knot : entry (u .knots) (c .point) ≡ c .knot
+  the-point-holds-the-new-knot = ap (λ (list : List ℤ). entry list (c .point)) (change .knots) ∙ getD-set-same (t .knots) (c .point) (c .knot) (pos 0) there
+
+  pub the-point-holds-the-new-value : entry (u .values) (c .point) ≡ c .value
+  the-point-holds-the-new-value = ap (λ (list : List ℤ). entry list (c .point)) (change .values) ∙ getD-set-same (t .values) (c .point) (c .value) (pos 0) in-values
+
+  pub no-other-knot-changes : (i : ℕ) → (i ≡ c .point → ⊥) → entry (u .knots) i ≡ entry (t .knots) i
+  no-other-knot-changes i f = ap (λ (list : List ℤ). entry list i) (change .knots) ∙ getD-set-other (t .knots) (c .point) i (c .knot) (pos 0) f
+
+  pub no-other-value-changes : (i : ℕ) → (i ≡ c .point → ⊥) → entry (u .values) i ≡ entry (t .values) i
+  no-other-value-changes i f = ap (λ (list : List ℤ). entry list i) (change .values) ∙ getD-set-other (t .values) (c .point) i (c .value) (pos 0) f
+
+  -- slope i, as the definition has it
+  slope-at : (i : ℕ) → i < points t → entry (u .slopes) i ≡ cond (beside (c .point) i) (builtSlope (changedBy c t .knots) (changedBy c t .values) i) (entry (t .slopes) i)
+  slope-at i l =
+      ap (λ (list : List ℤ). entry list i) (change .slopes)
+      ∙ tab-entry (length (t .slopes)) (λ i. cond (beside (c .point) i) (builtSlope (changedBy c t .knots) (changedBy c t .values) i) (entry (t .slopes) i)) i (omega (arith, l, equally-long c t refl (change .refusal) .slopes))
+
+  pub the-slopes-at-it-and-beside-it-are-renewed : (i : ℕ) → i < points t → Near (c .point) i → entry (u .slopes) i ≡ builtSlope (u .knots) (u .values) i
+  the-slopes-at-it-and-beside-it-are-renewed i l near =
+      slope-at i l ∙ chosen _ _ (beside (c .point) i) refl ∙ ap₂ (λ (ks vs : List ℤ). builtSlope ks vs i) (sym (change .knots)) (sym (change .values))
+    where
+      chosen : (x y : ℤ) (b : Bool) → beside (c .point) i ≡ b → cond b x y ≡ x
+      chosen x y true e = refl
+      chosen x y false e = absurd (beside-far (c .point) i e near)
+
+  pub no-other-slope-changes : (i : ℕ) → i < points t → (Near (c .point) i → ⊥) → entry (u .slopes) i ≡ entry (t .slopes) i
+  no-other-slope-changes i l far = slope-at i l ∙ chosen _ _ (beside (c .point) i) refl
+    where
+      chosen : (x y : ℤ) (b : Bool) → beside (c .point) i ≡ b → cond b x y ≡ y
+      chosen x y true e = absurd (far (beside-near (c .point) i e))
+      chosen x y false e = refl
