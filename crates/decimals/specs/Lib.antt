@@ -1,6 +1,7 @@
 pub mod Decimal
 pub mod Digits
-pub mod Reading
-pub mod Text
-pub mod Spelling
 pub mod Examples
+pub mod Natural
+pub mod Reading
+pub mod Spelling
+pub mod Text

@@ -148,6 +148,7 @@ fn cause(out: &mut [u8], held: usize, number: u32) -> usize {
             held,
             b"position before the first or after the last knot",
         ),
+        7 => words::append(out, held, b"no point with this number"),
         8 => words::append(out, held, b"piece too large for the exact float answer"),
         _ => held,
     }

@@ -1,6 +1,7 @@
 // One line, taken as a command: which command it is, and the faults that any line can have. A command is a case of `Asked` and a function that says
 // whether what it had to answer could be written.
 use crate::answers;
+use crate::changes;
 use crate::lists;
 use crate::lists::Lengths;
 use crate::lists::List;
@@ -19,6 +20,7 @@ enum Asked {
     Check,
     At,
     Drive,
+    Change,
     Unknown,
 }
 
@@ -114,6 +116,7 @@ fn other_command(
         Asked::Check => tables::check(line, from, number, knots, values, slopes),
         Asked::At => tables::at(line, from, number, knots, values, slopes),
         Asked::Drive => tables::drive(line, from, number, knots, values, slopes),
+        Asked::Change => changes::change(line, from, number, knots, values, slopes),
         Asked::Unknown => answers::fault(number, b"no such command"),
     }
 }
@@ -137,6 +140,9 @@ fn named(word: &[u8]) -> Asked {
     }
     if check::same(word, b"drive") {
         return Asked::Drive;
+    }
+    if check::same(word, b"change") {
+        return Asked::Change;
     }
     Asked::Unknown
 }

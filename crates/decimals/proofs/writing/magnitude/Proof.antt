@@ -1,16 +1,17 @@
 -- `decimals::writing::magnitude` meets its contract: of a negative n, −1 − n is one less than its magnitude.
 use borrow.Author.Needs.{needs}
 use borrow.Author.Tests.{le-ltb, ltb-true}
-use Prim.Native.Nat.{ℕ, suc, _+_, _-_, _<_, _≤_}
+use Prim.Native.Nat.{suc, _+_, _-_, _<_, _≤_}
 use native.Mathlib.Omega.{arith}
 use mathlib.Core.Path.{_≡_, ap, _∙_, subst, subst⁻¹}
-use mathlib.Core.Bool.{Bool, true, false, cond}
+use mathlib.Core.Bool.{Bool, true, cond}
 use lib.Dec.{T}
 use lib.IntN.{ℤ, pos, negsuc, natAbs, _-ℤ_}
 use lib.Signed.{ltZ, nonNeg, natAbs-le}
 use mir.Syntax.{w64}
 use mir.Val.{Fits, SFits, toZ, ofZ}
-use mir.Facts.{toZ-ofZ, fits-natAbs}
+use mir.Facts.{toZ-ofZ}
+use Rattle.decimals.specs.Natural.{fits-natural}
 use Rattle.decimals.proofs.writing.magnitude.Statement.{statement}
 use Rattle.decimals.proofs.writing.magnitude.Tie as tie
 
@@ -18,10 +19,6 @@ from-minus-one : (z : ℤ) → ltZ z (pos 0) ≡ true → (negsuc 0 -ℤ z ≡ p
 from-minus-one (pos n) e = absurd (omega (arith, ltb-true n 0 e))
 from-minus-one (negsuc n) e =
     (ap (λ (t : Bool). cond t (negsuc (1 - suc (suc n))) (pos (suc n - 1))) (le-ltb (suc n) 1 (omega arith)), omega arith)
-
-not-negative : (z : ℤ) → ltZ z (pos 0) ≡ false → T (nonNeg z)
-not-negative (pos n) e = tt
-not-negative (negsuc n) e = let z : _≡_ {A = ℕ} 0 1 = cc in absurd (omega arith)
 
 -- the number itself, behind its bits, and its bound
 itself : (c : tie.Start) → toZ w64 (ofZ w64 (c .args .n)) ≡ c .args .n
@@ -54,10 +51,7 @@ returns c =
     ap (λ (z : ℤ). natAbs z + 1) (made c) ∙ one-more
 
 cast-result-2 : tie.Need-cast-result-2
-cast-result-2 c =
-    let n = c .before .args .n in
-    let high = not-negative n (subst (λ (z : ℤ). ltZ z (pos 0) ≡ false) (itself (c .before)) (c .if1 .left)) in
-    subst⁻¹ (λ (z : ℤ). T (nonNeg z) × Fits w64 (natAbs z)) (itself (c .before)) (high, fits-natAbs tt (c .before .fits .n))
+cast-result-2 c = fits-natural (c .before .args .n) (c .before .fits .n) (c .if1 .left)
 
 returns-2 : tie.Need-returns-2
 returns-2 c = search needs
