@@ -17,3 +17,7 @@ class Dice:
     def up_to_any_size(self, highest):
         """A number from 1 to HIGHEST, the small sizes as often as the large ones."""
         return self.between(1, min(highest, 2 ** self.between(0, highest.bit_length() - 1)))
+
+    def pick(self, *things):
+        """One of these."""
+        return things[self.between(0, len(things) - 1)]

@@ -4,7 +4,8 @@ It shares nothing with the proved program. It decides by document 01's definitio
 least value of the quadratic over the piece, and not by the test of Fritsch and Carlson. Slopes and
 values are worked out with fractions, which are exact, and rounded at the very end. A value is made
 from the Hermite basis, and not by document 01's line; so is the numerator that the drive is given,
-and no float is used for it.
+and no float is used for it. For a change of a point all the slopes of the new points are built, and
+three of them are taken.
 """
 import math
 import re
@@ -30,6 +31,7 @@ CAUSES = {
     4: "a rise is outside its limits",
     5: "a piece is not monotone",
     6: "position before the first or after the last knot",
+    7: "no point with this number",
     8: "piece too large for the exact float answer",
 }
 
@@ -81,17 +83,25 @@ def differences(numbers):
     return [right - left for left, right in zip(numbers, numbers[1:])]
 
 
-def build_refusal(knots, values, slopes):
-    """The first cause to refuse a build of these lists, or None. All the widths are asked before any rise."""
+def count_refusal(knots, values, slopes):
+    """The first cause to refuse lists for their lengths, or None."""
     if not len(knots) == len(values) == len(slopes):
         return refusal(1, 0)
-    if not 2 <= len(knots) <= MOST_POINTS:
-        return refusal(2, 0)
+    return None if 2 <= len(knots) <= MOST_POINTS else refusal(2, 0)
+
+
+def point_refusal(knots, values):
+    """The first cause to refuse points for where they are, or None. All the widths are asked before any rise."""
     for number, steps, is_taken in ((3, differences(knots), is_width), (4, differences(values), is_rise)):
         for place, step in enumerate(steps):
             if not is_taken(step):
                 return refusal(number, place)
     return None
+
+
+def build_refusal(knots, values, slopes):
+    """The first cause to refuse a build of these lists, or None."""
+    return count_refusal(knots, values, slopes) or point_refusal(knots, values)
 
 
 def check_refusal(knots, values, slopes):
@@ -185,6 +195,29 @@ def drive_at(knots, values, slopes, position):
     numerator = (curve_at(knots, values, slopes, position) - values[left]) * denominator
     assert numerator.denominator == 1, "document 01's numerator is a whole number"
     return "move", values[left], int(numerator), denominator
+
+
+def replaced(numbers, place, number):
+    """The same numbers but for one."""
+    return [*numbers[:place], number, *numbers[place + 1 :]]
+
+
+def change_refusal(knots, values, slopes, point, knot, value):
+    """The first cause to refuse a change, or None. Where the points are is asked as it would be after the change."""
+    refused = count_refusal(knots, values, slopes)
+    if refused is not None:
+        return refused
+    if not 0 <= point < len(knots):
+        return refusal(7, 0)
+    return point_refusal(replaced(knots, point, knot), replaced(values, point, value))
+
+
+def changed_table(knots, values, slopes, point, knot, value):
+    """The three lists after a change that is not refused: slopes beside the point are as built, others as they were."""
+    new_knots, new_values = replaced(knots, point, knot), replaced(values, point, value)
+    built = built_slopes(new_knots, new_values)
+    new_slopes = [built[place] if abs(place - point) <= 1 else slope for place, slope in enumerate(slopes)]
+    return new_knots, new_values, new_slopes
 
 
 # ---- the language
@@ -321,6 +354,13 @@ class Workbench:
     def drive(self, position):
         return drive_refusal(*self.table(), position) or " ".join(map(str, drive_at(*self.table(), position)))
 
+    def change(self, point, knot, value):
+        refused = change_refusal(*self.table(), point, knot, value)
+        if refused is not None:
+            return refused
+        self.lists = dict(zip(LISTS, changed_table(*self.table(), point, knot, value)))
+        return "ok"
+
 
 # Each command: what it runs, and the reader of the words after its name, which gives the arguments.
 Command = namedtuple("Command", "run read")
@@ -334,6 +374,7 @@ COMMANDS = {
     b"check": Command(Workbench.check, numbers()),
     b"at": Command(Workbench.at, numbers(32)),
     b"drive": Command(Workbench.drive, numbers(32)),
+    b"change": Command(Workbench.change, numbers(64, 32, 32)),
 }
 
 

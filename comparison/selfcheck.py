@@ -1,13 +1,14 @@
 """The reference held against what was worked out without it: the figures of document 01, the
 definition tried at every fraction on small pieces, slopes and values found in other ways, the drive's
-answer worked out in floats, and lines whose answers were written by hand.
+answer worked out in floats, changes written entry by entry, and lines whose answers were written by hand.
 """
 from fractions import Fraction
 from itertools import product
 
+from dice import Dice, I32_MAX, I32_MIN
 from reference import (
-    UNIT, answers_to, built_slopes, check_refusal, drive_at, drive_refusal, end_slope, inner_slope, piece_at, refusal,
-    value_at, verdict,
+    LISTS, UNIT, Workbench, answers_to, built_slopes, check_refusal, drive_at, drive_refusal, end_slope, inner_slope,
+    piece_at, refusal, value_at, verdict,
 )
 
 # Copied from document 01, "Figures to hold against it".
@@ -33,6 +34,12 @@ BUILT_FIGURES = (
     ((0, 3), (0, -10), [-853, -853]),
     ((0, 1, 2, 3), (0, 1, 4, 7), [256, 384, 768, 768]),
     ((0, 1, 2, 3), (-2, 1, 4, 7), [768, 768, 768, 768]),
+)
+
+# Copied from there too: changes of the fourth table, each with its answer and the three lists after it.
+CHANGED_FIGURES = (
+    ((0, 0, -2), "ok", [[0, 1, 2, 3], [-2, 1, 4, 7], [768, 768, 768, 768]]),
+    ((1, 2, 1), "refused 3 at 1: a width is not in 1 to 1024", [[0, 1, 2, 3], [0, 1, 4, 7], [256, 384, 768, 768]]),
 )
 
 LINES = (
@@ -226,7 +233,86 @@ TABLE_LINES = (
         b"ok 3\nrefused 5 at 0: a piece is not monotone\nok 3\nrefused 4 at 1: a rise is outside its limits\n"
         b"ok 3\nrefused 3 at 1: a width is not in 1 to 1024\nok 1\nrefused 1 at 0: the lists' lengths differ\n",
     ),
+    # Changes of a point: the slopes beside it are renewed, also where it stays as it is, and no others.
+    (b"change 1 1 1\n" + SHOW_ALL, b"ok\n0 1 2\n0 1 4\n256 384 768\n"),
+    (b"change 0 0 -2\n" + SHOW_ALL, b"ok\n0 1 2\n-2 1 4\n768 768 9\n"),
+    (b"change 2 2 2\n" + SHOW_ALL, b"ok\n0 1 2\n0 1 2\n7 256 256\n"),
+    (b"change 2 3 2\nchange 0 -1 0\n" + SHOW_ALL, b"ok\nok\n-1 1 3\n0 1 2\n128 128 128\n"),
+    (
+        b"knots 0 9\nvalues 5 5\nslopes 1 2\nchange 1 3 -5\n" + SHOW_ALL,
+        b"ok 2\nok 2\nok 2\nok\n0 3\n5 -5\n-853 -853\n",
+    ),
+    (
+        b"knots 0 1 2 3 4\nvalues 0 1 2 3 4\nslopes 5 6 7 8 9\nchange 2 2 3\n" + SHOW_ALL,
+        b"ok 5\nok 5\nok 5\nok\n0 1 2 3 4\n0 1 3 3 4\n5 341 0 0 9\n",
+    ),
+    # Each refusal of a change. Where the point was is not asked, and all the others are.
+    (
+        b"slopes 5 6\nchange 0 0 0\nslopes 5 6 7 8\nchange 0 0 0\nchange 9 0 0\n" + SHOW_ALL,
+        b"ok 2\nrefused 1 at 0: the lists' lengths differ\nok 4\n" + b"refused 1 at 0: the lists' lengths differ\n" * 2
+        + b"0 1 2\n0 1 4\n5 6 7 8\n",
+    ),
+    (
+        b"knots 3\nvalues 4\nslopes 5\nchange 0 0 0\nchange 1 0 0\nchange -1 0 0\n" + SHOW_ALL,
+        b"ok 1\nok 1\nok 1\n" + b"refused 2 at 0: fewer than 2 or more than 1024 points\n" * 3 + b"3\n4\n5\n",
+    ),
+    (
+        b"change 3 3 9\nchange -1 3 9\nchange 4294967296 0 0\nchange -9223372036854775808 0 0\n" + SHOW_ALL,
+        b"refused 7 at 0: no point with this number\n" * 4 + b"0 1 2\n0 1 4\n7 8 9\n",
+    ),
+    (
+        b"change 1 0 1\nchange 1 2 1\nchange 2 1026 4\nchange 2 -2147483648 4\n" + SHOW_ALL,
+        b"refused 3 at 0: a width is not in 1 to 1024\n" + b"refused 3 at 1: a width is not in 1 to 1024\n" * 3
+        + b"0 1 2\n0 1 4\n7 8 9\n",
+    ),
+    (
+        b"change 1 1 1048577\nchange 0 0 1048578\nchange 2 2 1048578\nchange 1 1 -1048573\n" + SHOW_ALL,
+        b"refused 4 at 0: a rise is outside its limits\n" * 2 + b"refused 4 at 1: a rise is outside its limits\n" * 2
+        + b"0 1 2\n0 1 4\n7 8 9\n",
+    ),
+    (
+        b"knots 2147483646 2147483647\nvalues 0 0\nslopes 5 6\nchange 1 -2147483648 0\nshow knots",
+        b"ok 2\nok 2\nok 2\nrefused 3 at 0: a width is not in 1 to 1024\n2147483646 2147483647\n",
+    ),
+    (
+        b"knots 0 5000 2\nvalues 0 -2147483648 4\nchange 1 1 1\n" + SHOW_ALL,
+        b"ok 3\nok 3\nok\n0 1 2\n0 1 4\n256 384 768\n",
+    ),
+    (
+        b"knots 0 5000 2\nchange 0 0 0\nchange 2 5001 4\nchange 1 1 1\nshow slopes",
+        b"ok 3\n" + b"refused 3 at 0: a width is not in 1 to 1024\n" * 2 + b"ok\n256 384 768\n",
+    ),
+    # Two of them: lengths, then the count, then the point, then all the widths, then the rises.
+    (b"knots 0\nchange 1 0 0", b"ok 1\nrefused 1 at 0: the lists' lengths differ\n"),
+    (
+        b"values 0 1048577 0\nchange 3 2 0\nchange 2 1 0",
+        b"ok 3\nrefused 7 at 0: no point with this number\nrefused 3 at 1: a width is not in 1 to 1024\n",
+    ),
+    (
+        b"knots 0 1 2 3 4 5 6 7 8 9 10\nvalues 0 2000000 0 0 0 0 0 0 0 0 0\nslopes 1 2 3 4 5 6 7 8 9 10 11\n"
+        b"change 10 9 0\nchange 9 9 0\nchange 1 1 0\nshow slopes",
+        b"ok 11\nok 11\nok 11\nrefused 3 at 9: a width is not in 1 to 1024\n"
+        b"refused 4 at 0: a rise is outside its limits\nok\n0 0 0 4 5 6 7 8 9 10 11\n",
+    ),
+    # Changes among other commands, each of which sees the lists as they are.
+    (
+        b"change 2 4 10\ncheck\nat 3\nchange 9 9 9\nbuild\nshow slopes\nchange 2 2 4\nshow slopes",
+        b"ok\nok\n6\nrefused 7 at 0: no point with this number\nok\n256 354 768\nok\n256 384 768\n",
+    ),
     # Faults of the line.
+    (
+        b"change\nchange 1 1\nchange 1 1 1 1\nchange x y\nchange x 1 1\nchange 1 x 1\nchange 1 1 x\n" + SHOW_ALL,
+        b"? line 4: too few words\n? line 5: too few words\n? line 6: too many words\n? line 7: too few words\n"
+        b"? line 8: number 1 is not a whole decimal number\n? line 9: number 2 is not a whole decimal number\n"
+        b"? line 10: number 3 is not a whole decimal number\n0 1 2\n0 1 4\n7 8 9\n",
+    ),
+    (
+        b"change 9223372036854775808 1 1\nchange 9223372036854775807 1 1\nchange 1 2147483648 1\n"
+        b"change 1 1 -2147483649\nChange 1 1 1\nslopes 5\nchange 1 1 x\nchange -0\t01 \t -00 \r\n",
+        b"? line 4: number 1 does not fit 64 bits\nrefused 7 at 0: no point with this number\n"
+        b"? line 6: number 2 does not fit 32 bits\n? line 7: number 3 does not fit 32 bits\n? line 8: no such command\n"
+        b"ok 1\n? line 10: number 3 is not a whole decimal number\nrefused 1 at 0: the lists' lengths differ\n",
+    ),
     (b"build it\nshow slopes", b"? line 4: too many words\n7 8 9\n"),
     (b"check it\nat\nat 1 2", b"? line 4: too many words\n? line 5: too few words\n? line 6: too many words\n"),
     (b"at x y\nat 1r", b"? line 4: too many words\n? line 5: number 1 is not a whole decimal number\n"),
@@ -299,6 +385,16 @@ COUNT_LINES = (
     (
         set_level(1025) + b"check\nat 0",
         b"ok 1025\n" * 3 + b"refused 2 at 0: fewer than 2 or more than 1024 points\n" * 2,
+    ),
+    (b"change 0 0 0\nchange -1 0 0", b"refused 2 at 0: fewer than 2 or more than 1024 points\n" * 2),
+    (
+        set_level(1024) + b"change 1023 1024 5\nchange 1024 1025 3\nchange 1023 1022 3\nshow slopes",
+        b"ok 1024\n" * 3 + b"ok\nrefused 7 at 0: no point with this number\n"
+        b"refused 3 at 1022: a width is not in 1 to 1024\n5" + b" 5" * 1021 + b" 0 256\n",
+    ),
+    (
+        set_level(1025) + b"change 0 0 3\nchange 1025 0 0\nshow slopes",
+        b"ok 1025\n" * 3 + b"refused 2 at 0: fewer than 2 or more than 1024 points\n" * 2 + b"5" + b" 5" * 1024 + b"\n",
     ),
 )
 
@@ -531,6 +627,141 @@ def position_fault():
     return None
 
 
+def workbench_with(knots, values, slopes):
+    """A workbench that has these lists."""
+    workbench = Workbench()
+    workbench.lists = dict(zip(LISTS, map(list, (knots, values, slopes))))
+    return workbench
+
+
+def cause_by_cases(knots, values, slopes, point, knot, value):
+    """The number and the place of a change's refusal, or None: each piece asked by itself, and no list copied."""
+    if len({len(knots), len(values), len(slopes)}) > 1:
+        return 1, 0
+    if len(slopes) in (0, 1) or len(slopes) > 1024:
+        return 2, 0
+    if point not in range(len(slopes)):
+        return 7, 0
+    bad_widths, bad_rises = [], []
+    for left in range(len(slopes) - 1):
+        width, rise = knots[left + 1] - knots[left], values[left + 1] - values[left]
+        if left + 1 == point:
+            width, rise = knot - knots[left], value - values[left]
+        if left == point:
+            width, rise = knots[left + 1] - knot, values[left + 1] - value
+        if width <= 0 or width >= 1025:
+            bad_widths.append((3, left))
+        if abs(rise) >= 1048577:
+            bad_rises.append((4, left))
+    return (*bad_widths, *bad_rises, None)[0]
+
+
+def slope_by_cases(knots, values, place):
+    """The slope that a build of good points gives to one of them: Fritsch and Butland's mean, or an end piece's own."""
+    if 0 < place < len(knots) - 1:
+        h1, h2 = knots[place] - knots[place - 1], knots[place + 1] - knots[place]
+        z1, z2 = values[place] - values[place - 1], values[place + 1] - values[place]
+        if z1 == 0 or z2 == 0 or (z1 > 0) != (z2 > 0):
+            return 0
+        w = Fraction(h1 + 2 * h2, 3 * (h1 + h2))
+        size = 1 / (w * h1 / (UNIT * abs(z1)) + (1 - w) * h2 / (UNIT * abs(z2))) // 1
+        return size if z1 > 0 else -size
+    left = 0 if place == 0 else place - 1
+    width, rise = knots[left + 1] - knots[left], values[left + 1] - values[left]
+    return UNIT * rise // width if rise > 0 else -(UNIT * -rise // width)
+
+
+def change_by_cases(knots, values, slopes, point, knot, value):
+    """The answer to a change, and the three lists after it, written entry by entry."""
+    cause = cause_by_cases(knots, values, slopes, point, knot, value)
+    if cause is not None:
+        return refusal(*cause), [knots, values, slopes]
+    new_knots, new_values, new_slopes = list(knots), list(values), list(slopes)
+    new_knots[point], new_values[point] = knot, value
+    if point > 0:
+        new_slopes[point - 1] = slope_by_cases(new_knots, new_values, point - 1)
+    new_slopes[point] = slope_by_cases(new_knots, new_values, point)
+    if point < len(slopes) - 1:
+        new_slopes[point + 1] = slope_by_cases(new_knots, new_values, point + 1)
+    return "ok", [new_knots, new_values, new_slopes]
+
+
+def in_steps(dice, count, steps):
+    """So many numbers, each one of these steps from the one before it."""
+    numbers = []
+    for _ in range(count):
+        numbers.append(numbers[-1] + dice.pick(*steps) if numbers else dice.between(-9, 9))
+    return numbers
+
+
+def at_an_end(dice, numbers):
+    """The numbers as they are, or moved until one of them is at an end of 32 bits."""
+    step = dice.pick(0, 0, 0, I32_MIN - min(numbers), I32_MAX - max(numbers)) if numbers else 0
+    return [number + step for number in numbers]
+
+
+def beside_any(dice, numbers, steps):
+    """A number that is one of these steps from one of the numbers, or an end of 32 bits."""
+    number = dice.pick(*numbers) + dice.pick(*steps) if numbers else 0
+    return dice.pick(I32_MIN, I32_MAX, *[min(max(number, I32_MIN), I32_MAX)] * 18)
+
+
+def any_change(dice):
+    """A small table and a change of it, either of them good or bad: knots, values, slopes, point, knot, value."""
+    count = dice.pick(0, 1, 2, 2, 2, 3, 3, 3, 4, 4, 5, 6)
+    widths = (*range(1, 9), *range(1, 9), *range(1, 9), 1024, dice.pick(0, -1, 1025))
+    rises = (*range(-9, 30), dice.pick(1048576, -1048576), dice.pick(1048577, -1048577))
+    knots, values = at_an_end(dice, in_steps(dice, count, widths)), at_an_end(dice, in_steps(dice, count, rises))
+    slopes = [dice.pick(I32_MIN, I32_MAX, dice.between(I32_MIN, I32_MAX)) for _ in range(count)]
+    point = dice.between(-1, count)
+    near = slice(max(point - 1, 0), point + 2)
+    knot = beside_any(dice, knots[near], (-1024, -3, -2, -1, 0, 1, 2, 3, 1024))
+    value = beside_any(dice, values[near], (-1048576, -9, -5, 0, 5, 9, 1048576))
+    if dice.between(0, 19) == 0:
+        of_another_length = dice.pick(knots, values, slopes)
+        of_another_length[:] = (*of_another_length, 0, 0)[: dice.between(0, count + 2)]
+    return knots, values, slopes, point, knot, value
+
+
+def change_fault():
+    """A sentence on the first change that is wrong, or None."""
+    for change, answer, lists in CHANGED_FIGURES:
+        workbench = workbench_with(*BUILT_FIGURES[3])
+        if (workbench.change(*change), workbench.table()) != (answer, lists):
+            return f"the change {change} does not give {answer} and {lists}, as in document 01"
+    dice, answers = Dice(42), set()
+    for _ in range(6000):
+        *lists, point, knot, value = any_change(dice)
+        workbench = workbench_with(*lists)
+        answer, lists_after = change_by_cases(*lists, point, knot, value)
+        if (workbench.change(point, knot, value), workbench.table()) != (answer, lists_after):
+            return f"the change {point, knot, value} of {lists} does not give {answer} and {lists_after}"
+        answers.add(answer)
+    # Done, the three causes that are always at 0, and two that are at each of five pieces.
+    return None if len(answers) == 14 else f"{len(answers)} answers to changes were tried, and it must be 14"
+
+
+def chain_fault():
+    """A sentence on the first change in a chain that does not leave what a build gives, or None."""
+    dice, done = Dice(43), 0
+    for count in (*range(2, 8), 30) * 20:
+        points = in_steps(dice, count, range(3, 9)), in_steps(dice, count, range(-9, 30))
+        workbench = workbench_with(*points, built_slopes(*points))
+        for _ in range(12):
+            before, point = [list(numbers) for numbers in workbench.table()], dice.between(0, count - 1)
+            knot, value, _ = (numbers[point] for numbers in before)
+            change = point, knot + dice.between(-4, 4), value + dice.between(-20, 20)
+            done += workbench.change(*change) == "ok"
+            knots, values, slopes = workbench.table()
+            if slopes != built_slopes(knots, values):
+                return f"the change {change} of {before} leaves slopes {slopes}, and a build gives others"
+            workbench.change(point, knot, value)
+            if workbench.table() != before:
+                return f"the change {change} of {before}, undone, leaves {workbench.table()}"
+            workbench.change(*change)
+    return None if done >= 1000 else f"only {done} changes in chains were not refused"
+
+
 def line_fault():
     """A sentence on the first line that the reference answers wrongly, or None."""
     after_table = [(SET_TABLE + data, b"ok 3\n" * 3 + expected) for data, expected in TABLE_LINES]
@@ -544,5 +775,6 @@ def first_fault():
     """A sentence on the first thing that is wrong with the reference, or None."""
     return (
         piece_fault() or inner_slope_fault() or end_slope_fault() or table_fault()
-        or value_fault() or float_limit_fault() or drive_fault() or position_fault() or line_fault()
+        or value_fault() or float_limit_fault() or drive_fault() or position_fault() or change_fault() or chain_fault()
+        or line_fault()
     )
