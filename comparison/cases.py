@@ -7,6 +7,7 @@ to the answers which the README shows.
 import sys
 from pathlib import Path
 
+import changes
 import drives
 import evaluations
 import language
@@ -20,6 +21,7 @@ GROUPS = (
     *tables.GROUPS,
     *evaluations.GROUPS,
     *drives.GROUPS,
+    *changes.GROUPS,
     *rows.GROUPS,
     *language.GROUPS,
     ("The table of before.", rows.last_table_again),

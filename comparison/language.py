@@ -42,6 +42,7 @@ def silent_lines():
     yield b"piece# 1 1 256 256"
     yield from (b"#at 2", b"#check", b" #check", b"at 2 # two", b"at #2", b"at# 2", b"check # all", b"check#")
     yield from (b"#drive 2", b" #drive 2", b"drive 2 # two", b"drive #2", b"drive# 2")
+    yield from (b"#change 1 1 1", b" #change 1 1 1", b"change 1 1 1 # one", b"change 1 1 #1", b"change# 1 1 1")
 
 
 def unknown_commands():
@@ -59,6 +60,11 @@ def unknown_commands():
     ):
         yield word + b" 2"
     for word in (
+        b"Change", b"CHANGE", b"changE", b"chang", b"hange", b"c", b"changes", b"chagne", b"charge", b"change,",
+        b"change1", b"change\x00", b"change\x0b", b"\xffchange",
+    ):
+        yield word + b" 1 1 1"
+    for word in (
         b"Check", b"CHECK", b"checK", b"chec", b"heck", b"checks", b"check,", b"check1", b"chekc", b"check\x00",
         b"check\x0c", b"\xa0check",
     ):
@@ -68,6 +74,7 @@ def unknown_commands():
     yield b"pieces one two"
     yield b"piece1 1 256 256"
     yield from (b"At", b"at2", b"att x y", b"Check all", b"Drive", b"drive2", b"drives x y")
+    yield from (b"Change", b"change1", b"change1 1 1", b"changes x y z")
 
 
 def counts_of_words():
@@ -77,18 +84,25 @@ def counts_of_words():
     yield from (b"check check", b"check knots", b"at at 2")
     yield from (b"drive", b"drive ", b"drive\t\r", b"drive 2 3", b"drive 2 2 2", b"drive 2 x")
     yield from (b"drive drive 2", b"drive at 2", b"at drive 2")
+    yield from (b"change", b"change ", b"change\t\r", b"change 1", b"change 1 1", b"change 1 1 1 1", b"change 1 1 1 x")
+    yield from (b"change change 1 1 1", b"change 1 1 1 1 1 1", b"change knots", b"change slopes 1 1 1")
     # The count is asked before the numbers.
     yield from (b"piece x", b"piece 1.5 1 256", b"piece x 1 256 256 256", b"piece piece")
     yield from (b"at x y", b"at 2147483648 2", b"at x 2147483648 2")
     yield from (b"drive x y", b"drive 2147483648 2", b"drive x 2147483648 2")
+    yield from (b"change x", b"change x y", b"change 1 2147483648", b"change x y z w", b"change 1 1 1 2147483648")
 
 
 def each_number(word):
-    """Good pieces with one number replaced by the word, each of the four in turn, and the word as a position."""
+    """Good pieces with one number replaced by the word, each of the four in turn, and the word as a position.
+
+    Then changes with the word as each of their three numbers: far from any point, or of none, so that no list changes.
+    """
     good = [b"1", b"1", b"256", b"256"]
     for place in range(4):
         yield b" ".join([b"piece", *good[:place], word, *good[place + 1 :]])
     yield from (b"at " + word, b"drive " + word)
+    yield from (b"change %b 9999 1" % word, b"change 4 %b 1" % word, b"change 4 1 %b" % word)
 
 
 def not_decimal():
@@ -131,11 +145,14 @@ def first_fault():
     yield b"piece 1 99999999999999999999 4294967296 w"
     yield b"piece 1 1 4294967296 w"
     yield b"piece 1 1 w 4294967296"
+    yield from (b"change x y z", b"change 1 y z", b"change 99999999999999999999 y 0", b"change x 4294967296 0")
+    yield from (b"change 1 4294967296 z", b"change 1 y 4294967296", b"change 99999999999999999999 4294967296 0")
     # A fault of the line comes before any refusal.
     yield b"piece 0 1 256 x"
     yield b"piece 1025 1048577 0 2147483648"
     yield b"piece 0 9223372036854775808 0 0"
     yield from (b"at -4 6", b"drive -4 6")
+    yield from (b"change 4 1 x", b"change -1 x 1", b"change 1 9999 2147483648", b"change 9223372036854775808 9999 1")
 
 
 def long_lines():

@@ -319,15 +319,18 @@ def inner_rounding():
             yield from values((0, -z1, -z1 - z2))
 
 
+# Two pieces each, as h1, z1, h2, z2, whose quotient is so near below a whole number that 64-bit floats round it up.
+PAST_FLOATS = (
+    (55, 1016176, 9, 1008466),
+    (71, 890691, 37, 1016134),
+    (110, 981857, 75, 912587),
+    (163, 897653, 174, 911627),
+    (166, 1031308, 147, 1022852),
+)
+
+
 def inner_past_floats():
-    """Inner points whose quotient is so near below a whole number that 64-bit floats round it up to that one."""
-    for h1, z1, h2, z2 in (
-        (55, 1016176, 9, 1008466),
-        (71, 890691, 37, 1016134),
-        (110, 981857, 75, 912587),
-        (163, 897653, 174, 911627),
-        (166, 1031308, 147, 1022852),
-    ):
+    for h1, z1, h2, z2 in PAST_FLOATS:
         yield from points((0, h1, h1 + h2), (0, z1, z1 + z2))
         yield from values((0, -z1, -z1 - z2))
 
