@@ -17,6 +17,20 @@ pub data Chain : List Change → (before after : Table) → Type 0 where
   none : {t : Table} → Chain [] t t
   next : {c : Change} {cs : List Change} {t u v : Table} {number place : ℕ} → Changed c t u number place → Chain cs u v → Chain (c ∷ cs) t v
 
+-- No change of a list is left out: the last is made of the table that the others left.
+pub record MadeLast (cs : List Change) (c : Change) (before after : Table) : Type 0 where
+  pub others : Table
+  pub number : ℕ
+  pub place : ℕ
+  pub change : Changed c others after number place
+  pub chain : Chain cs before others
+
+pub the-last-is-made : (cs : List Change) {c : Change} {t u : Table} → Chain (cs ++ c ∷ []) t u → MadeLast cs c t u
+the-last-is-made [] (next change none) = record { others = _; number = _; place = _; change = change; chain = none }
+the-last-is-made (d ∷ cs) (next change chain) =
+    let m = the-last-is-made cs chain in
+    record { others = m .others; number = m .number; place = m .place; change = m .change; chain = next change (m .chain) }
+
 -- A table whose points are accepted and whose slopes are all as built from them.
 pub record BuiltTable (t : Table) : Type 0 where
   pub limits : Points (t .knots) (t .values)
@@ -48,18 +62,3 @@ after-a-chain (next change chain) b = after-a-chain chain (after-a-change change
 pub the-slopes-equal-those-built-afresh : {knots values before slopes again : List ℤ} {place : ℕ} {cs : List Change} {t : Table}
     → Built knots values before slopes 0 place → Chain cs (table knots values slopes) t → length again ≡ points t → Built (t .knots) (t .values) again (t .slopes) 0 0
 the-slopes-equal-those-built-afresh {again = again} build chain e = built-afresh (after-a-chain chain (by-a-build build)) again e
-
--- ---- no change of a list is left out: the last is made of the table that the others left, and a list is made part by part
-
-pub record MadeLast (cs : List Change) (c : Change) (before after : Table) : Type 0 where
-  pub others : Table
-  pub chain : Chain cs before others
-  pub number : ℕ
-  pub place : ℕ
-  pub change : Changed c others after number place
-
-pub the-last-is-made : (cs : List Change) {c : Change} {t u : Table} → Chain (cs ++ c ∷ []) t u → MadeLast cs c t u
-the-last-is-made [] (next change none) = record { others = _; chain = none; number = _; place = _; change = change }
-the-last-is-made (d ∷ cs) (next change chain) =
-    let m = the-last-is-made cs chain in
-    record { others = m .others; chain = next change (m .chain); number = m .number; place = m .place; change = m .change }

@@ -7,18 +7,19 @@ mod beside;
 use rules::Refusal;
 use table::Change;
 
-// Gives a point another knot and another value, renews the slopes at it and beside it, whatever they were, and answers 0 at place 0; or answers the first cause of
-// a refusal, in the order 1, 2, 7, 3, 4, and its first place, and writes nothing. 3 and 4 are asked of the points as they would be.
+// Gives a point another knot and another value, gives the slopes at it and beside it what a build of the new points gives them, whatever they were, changes no other
+// entry, and answers 0 at place 0; or answers the first cause of a refusal, in the order 1, 2, 7, 3, 4, and its first place, and leaves the lists as they were. 3 and 4
+// are asked of the points as they would be.
 pub fn point(knots: &mut [i32], values: &mut [i32], slopes: &mut [i32], change: Change) -> Refusal
     ensures { λ r. ⌜ Changed change (table (now (knots .entry)) (now (values .entry)) (now (slopes .entry))) (table (now (knots .exit)) (now (values .exit)) (now (slopes .exit))) (r .number) (r .place) ⌝ }
 {
+    let k = change.point;
+    let knot = change.knot;
+    let value = change.value;
     let refusal = table::changed_points(knots, values, slopes, change);
     if refusal.number != rules::DONE {
         return refusal;
     }
-    let k = change.point;
-    let knot = change.knot;
-    let value = change.value;
     knots[k] = knot;
     values[k] = value;
     beside::renew(knots, values, slopes, k);

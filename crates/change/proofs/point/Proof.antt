@@ -10,9 +10,10 @@ use mir.Syntax.{w32}
 use mir.Val.{toZ, ofZ}
 use mir.Facts.{toZ-ofZ}
 use borrow.Author.Needs.{needs}
+use Rattle.rules.specs.Refusals.{Given}
 use Rattle.rules.specs.Order.{kept, replaced}
 use Rattle.table.specs.Table.{Table, table, SameLengths}
-use Rattle.table.specs.Changed.{changedBy}
+use Rattle.table.specs.Changed.{changedBy, HoldsAfter, changeOrder}
 use Rattle.table.specs.AfterChange.{point-there, accepted-then, equally-long}
 use Rattle.table.specs.Accepted.{Points}
 use Rattle.slopes.specs.Slopes.{builtSlope}
@@ -32,59 +33,67 @@ same-length-2 c = search needs
 same-length-3 : tie.Need-same-length-3
 same-length-3 c = search needs
 
--- the table as it came in
+-- the table as it came in, and what was answered of it
 abbrev old : tie.Start → Table
 old s = table (s .args .knots .now) (s .args .values .now) (s .args .slopes .now)
 
+abbrev start : tie.After-changed-points → tie.Start
+start c = c .before .before .before .before .before .before
+
+given : (c : tie.After-changed-points) → Given (HoldsAfter (start c .args .change) (old (start c))) changeOrder (c .changed-points .result .number) (c .changed-points .result .place)
+given c = c .changed-points .ensures
+
 returns : tie.Need-returns
 returns c =
-    let t = old (c .before .before .before .before .before .before) in
-    let change = c .before .before .before .before .before .before .args .change in
+    let d = c .before .before in
+    let n = d .changed-points .result .number in
+    let change = start d .args .change in
+    let t = old (start d) in
     record {
-      refusal = c .before .before .changed-points .ensures;
-      knots = kept (t .knots) (changedBy change t .knots) (c .if1 .taken);
-      values = kept (t .values) (changedBy change t .values) (c .if1 .taken);
-      slopes = kept (t .slopes) (renewedSlopes change t) (c .if1 .taken);
+      refusal = given d;
+      knots = kept {n = n} (t .knots) (changedBy change t .knots) (c .if1 .taken);
+      values = kept {n = n} (t .values) (changedBy change t .values) (c .if1 .taken);
+      slopes = kept {n = n} (t .slopes) (renewedSlopes change t) (c .if1 .taken);
     }
 
 -- ---- where nothing is refused
 
-abbrev start : tie.Else1 → tie.Start
-start c = c .before .before .before .before .before .before
+there : (c : tie.Else1) → let s = start (c .before .before) .args in s .change .point < length (s .knots .now)
+there c = let d = c .before .before in point-there (start d .args .change) (old (start d)) (c .if1 .left) (given d)
 
-there : (c : tie.Else1) → start c .args .change .point < length (start c .args .knots .now)
-there c = point-there (start c .args .change) (old (start c)) (c .if1 .left) (c .before .before .changed-points .ensures)
-
-lists : (c : tie.Else1) → SameLengths (old (start c))
-lists c = equally-long (start c .args .change) (old (start c)) (c .if1 .left) (c .before .before .changed-points .ensures)
+lists : (c : tie.Else1) → SameLengths (old (start (c .before .before)))
+lists c = let d = c .before .before in equally-long (start d .args .change) (old (start d)) (c .if1 .left) (given d)
 
 mul-knot : tie.Need-mul-knot
-mul-knot c = let l = there (c .before .before) in search needs
+mul-knot c = let l = there c in search needs
 
 slice-set-from-knot : tie.Need-slice-set-from-knot
-slice-set-from-knot c = there (c .before .before)
+slice-set-from-knot c = there c
 
 mul-value : tie.Need-mul-value
-mul-value c = let l = there (c .before .before) in search needs
+mul-value c = let l = there c in search needs
 
 slice-set-from-value : tie.Need-slice-set-from-value
-slice-set-from-value c = let e = c .before .before in omega (arith, there e, lists e .values)
+slice-set-from-value c = omega (arith, there c, lists c .values)
 
--- the knots and the values that were written
-new-knots : (c : tie.After-struct-told) → let s = start (c .before) .args in set (s .knots .now) (s .change .point) (toZ w32 (ofZ w32 (s .change .knot))) ≡ changedBy (s .change) (old (start (c .before))) .knots
-new-knots c = let s = start (c .before) .args in ap (set (s .knots .now) (s .change .point)) (toZ-ofZ (record { sfits = c .struct-told .given .1 .0 .1 }))
+-- the knots and the values that are written
+new-knots : (c : tie.After-struct-told) → let s = c .before .args in set (s .knots .now) (s .change .point) (toZ w32 (ofZ w32 (s .change .knot))) ≡ changedBy (s .change) (old (c .before)) .knots
+new-knots c = let s = c .before .args in ap (set (s .knots .now) (s .change .point)) (toZ-ofZ (record { sfits = c .struct-told .given .1 .0 .1 }))
 
-new-values : (c : tie.After-struct-told) → let s = start (c .before) .args in set (s .values .now) (s .change .point) (toZ w32 (ofZ w32 (s .change .value))) ≡ changedBy (s .change) (old (start (c .before))) .values
-new-values c = let s = start (c .before) .args in ap (set (s .values .now) (s .change .point)) (toZ-ofZ (record { sfits = c .struct-told .given .1 .1 .0 .1 }))
+new-values : (c : tie.After-struct-told) → let s = c .before .args in set (s .values .now) (s .change .point) (toZ w32 (ofZ w32 (s .change .value))) ≡ changedBy (s .change) (old (c .before)) .values
+new-values c = let s = c .before .args in ap (set (s .values .now) (s .change .point)) (toZ-ofZ (record { sfits = c .struct-told .given .1 .1 .0 .1 }))
+
+abbrev told : tie.Else1 → tie.After-struct-told
+told c = c .before .before .before .before .before .before .before
 
 renew-requires : tie.Need-renew-requires
 renew-requires c κs =
-    let d = c .before .before .before .before in
-    let e = d .before in
-    let s = start e in
-    let g = e .before .before .changed-points .ensures in (
-      subst₂ Points (sym (new-knots d)) (sym (new-values d)) (accepted-then (s .args .change) (old s) (e .if1 .left) g),
-      (lists e .slopes ∙ sym (length-set (s .args .knots .now) (s .args .change .point) _), lt-length-set (s .args .knots .now) (s .args .change .point) _ (there e)),
+    let e = c .before .before .before in
+    let d = e .before .before in
+    let s = start d .args in
+    let list = s .knots .now in (
+      subst₂ Points (sym (new-knots (told e))) (sym (new-values (told e))) (accepted-then (s .change) (old (start d)) (e .if1 .left) (given d)),
+      (lists e .slopes ∙ sym (length-set list (s .change .point) _), lt-length-set list (s .change .point) _ (there e)),
     )
 
 same-length-4 : tie.Need-same-length-4
@@ -96,21 +105,25 @@ same-length-5 c = search needs
 same-length-6 : tie.Need-same-length-6
 same-length-6 c = search needs
 
+new-slopes : (c : tie.After-slopes) → let s = start (c .before .before .before .before .before .before .before) in c .before .renew .last .1 .1 .0 ≡ renewedSlopes (s .args .change) (old s)
+new-slopes c =
+    let e = c .before .before .before .before .before in
+    let s = start (e .before .before) .args in
+    c .before .renew .ensures
+    ∙ ap₂ (λ (ks vs : List ℤ). renewed (s .change .point) (builtSlope ks vs) (s .slopes .now)) (new-knots (told e)) (new-values (told e))
+
 returns-2 : tie.Need-returns-2
 returns-2 c =
-    let d = c .before .before .before .before .before .before in
-    let e = d .before in
-    let change = start e .args .change in
-    let t = old (start e) in
+    let e = c .before .before .before .before .before in
+    let d = e .before .before in
+    let change = start d .args .change in
+    let t = old (start d) in
     let done = e .if1 .left in
     record {
-      refusal = e .before .before .changed-points .ensures;
-      knots = new-knots d ∙ replaced (t .knots) (changedBy change t .knots) done;
-      values = new-values d ∙ replaced (t .values) (changedBy change t .values) done;
-      slopes =
-          c .before .renew .ensures
-          ∙ ap₂ (λ (ks vs : List ℤ). renewed (change .point) (builtSlope ks vs) (t .slopes)) (new-knots d) (new-values d)
-          ∙ replaced (t .slopes) (renewedSlopes change t) done;
+      refusal = given d;
+      knots = new-knots (told e) ∙ replaced (t .knots) (changedBy change t .knots) done;
+      values = new-values (told e) ∙ replaced (t .values) (changedBy change t .values) done;
+      slopes = new-slopes c ∙ replaced (t .slopes) (renewedSlopes change t) done;
     }
 
 pub point-spec : {M : Type 1} → statement M

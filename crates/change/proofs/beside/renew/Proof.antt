@@ -1,6 +1,6 @@
 -- `change::beside::renew` meets its contract: the slopes to be renewed are one range.
-use mathlib.Core.Path.{_∙_, ap₂}
-use Prim.Native.Nat.{ℕ, _-_}
+use mathlib.Core.Path.{_≡_, _∙_, ap₂}
+use Prim.Native.Nat.{ℕ, _+_, _-_, min}
 use native.Mathlib.Omega.{arith}
 use lib.ListN.{length}
 use borrow.Author.Needs.{needs}
@@ -24,13 +24,20 @@ renew-requires c κs =
 same-length : tie.Need-same-length
 same-length c = search needs
 
+-- the range that is renewed
+from : (c : tie.After-first) → c .first .result ≡ c .before .before .args .k - 1
+from c = c .first .ensures
+
+up-to : (c : tie.After-end) → let s = c .before .before .before .args in c .end .result ≡ min (s .k + 2) (length (s .knots .now))
+up-to c = c .end .ensures
+
 returns : tie.Need-returns
 returns c =
     let d = c .before .before in
     let s = d .before .before .before in
     let f = builtSlope (s .args .knots .now) (s .args .values .now) in
     c .before .renew .ensures
-    ∙ ap₂ (λ (lo hi : ℕ). put f lo (hi - lo) (s .args .slopes .now)) (d .before .first .ensures) (d .end .ensures)
+    ∙ ap₂ (λ (lo hi : ℕ). put f lo (hi - lo) (s .args .slopes .now)) (from (d .before)) (up-to d)
     ∙ put-beside f (s .args .k) (length (s .args .knots .now)) (s .args .slopes .now) (s .pre .1 .0) (s .pre .1 .1)
 
 pub renew-spec : {M : Type 1} → statement M

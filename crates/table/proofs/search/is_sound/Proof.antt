@@ -70,20 +70,32 @@ abbrev table-of : (ks vs ss : List ℤ) → Change → Table
 table-of ks vs ss c = changedBy c (table ks vs ss)
 
 -- a width or a rise of it, with the new entry as it came in
-came-in : {r new : ℤ} (list : List ℤ) (at i : ℕ) → SFits w32 new → r ≡ step (set list at (toZ w32 (ofZ w32 new))) i → r ≡ step (set list at new) i
-came-in {r} list at i f = subst (λ (x : ℤ). r ≡ step (set list at x) i) (toZ-ofZ f)
+came-in : {r : ℤ} (list : List ℤ) (at : ℕ) (new : ℤ) (i : ℕ) → SFits w32 new → r ≡ step (set list at (toZ w32 (ofZ w32 new))) i → r ≡ step (set list at new) i
+came-in {r} list at new i f = subst (λ (x : ℤ). r ≡ step (set list at x) i) (toZ-ofZ f)
+
+-- ---- a width, a rise
+
+asked-width : (c : tie.After-step) → let s = c .before .before .before .before .args in toZ w64 (ofZ w64 (c .step .result)) ≡ step (set (s .knots .now) (s .change .point) (s .change .knot)) (s .i)
+asked-width c =
+    let s = c .before .before .before .before .args in
+    came-in (s .knots .now) (s .change .point) (s .change .knot) (s .i) (record { sfits = c .before .struct-told .given .1 .0 .1 }) (returned w64 (c .step .ok) (c .step .ensures))
+
+asked-rise : (c : tie.After-step2) → let s = c .before .before .before .before .args in toZ w64 (ofZ w64 (c .step2 .result)) ≡ step (set (s .values .now) (s .change .point) (s .change .value)) (s .i)
+asked-rise c =
+    let s = c .before .before .before .before .args in
+    came-in (s .values .now) (s .change .point) (s .change .value) (s .i) (record { sfits = c .before .struct-told2 .given .1 .1 .0 .1 }) (returned w64 (c .step2 .ok) (c .step2 .ensures))
 
 -- ---- a bend: only pieces within the limits are asked for one
 
 width : (c : tie.After-step3) → let s = c .before .before .before .before .args in toZ w64 (ofZ w64 (c .step3 .result)) ≡ step (set (s .knots .now) (s .change .point) (s .change .knot)) (s .i)
 width c =
     let s = c .before .before .before .before .args in
-    came-in (s .knots .now) (s .change .point) (s .i) (record { sfits = c .before .struct-told3 .given .1 .0 .1 }) (returned w64 (c .step3 .ok) (c .step3 .ensures))
+    came-in (s .knots .now) (s .change .point) (s .change .knot) (s .i) (record { sfits = c .before .struct-told3 .given .1 .0 .1 }) (returned w64 (c .step3 .ok) (c .step3 .ensures))
 
 rise : (c : tie.After-step4) → let s = c .before .before .before .before .before .before .args in toZ w64 (ofZ w64 (c .step4 .result)) ≡ step (set (s .values .now) (s .change .point) (s .change .value)) (s .i)
 rise c =
     let s = c .before .before .before .before .before .before .args in
-    came-in (s .values .now) (s .change .point) (s .i) (record { sfits = c .before .struct-told4 .given .1 .1 .0 .1 }) (returned w64 (c .step4 .ok) (c .step4 .ensures))
+    came-in (s .values .now) (s .change .point) (s .change .value) (s .i) (record { sfits = c .before .struct-told4 .given .1 .1 .0 .1 }) (returned w64 (c .step4 .ok) (c .step4 .ensures))
 
 is-monotone-requires : tie.Need-is-monotone-requires
 is-monotone-requires c κs =
@@ -107,17 +119,13 @@ returns : tie.Need-returns
 returns c =
     let args = c .before .before .before .before .before .args in
     for-cause (args .cause) (table-of (args .knots .now) (args .values .now) (args .slopes .now) (args .change)) (args .i) (c .before .before .before .enum-told .given .1)
-    (asked WidthWithin {b = c .width-within .result}
-    (came-in (args .knots .now) (args .change .point) (args .i) (record { sfits = c .before .before .struct-told .given .1 .0 .1 }) (returned w64 (c .before .step .ok) (c .before .step .ensures)))
-    (c .width-within .ensures))
+    (asked WidthWithin {b = c .width-within .result} (asked-width (c .before)) (c .width-within .ensures))
 
 returns-2 : tie.Need-returns-2
 returns-2 c =
     let args = c .before .before .before .before .before .args in
     for-cause (args .cause) (table-of (args .knots .now) (args .values .now) (args .slopes .now) (args .change)) (args .i) (c .before .before .before .enum-told2 .given .1)
-    (asked RiseWithin {b = c .rise-within .result}
-    (came-in (args .values .now) (args .change .point) (args .i) (record { sfits = c .before .before .struct-told2 .given .1 .1 .0 .1 }) (returned w64 (c .before .step2 .ok) (c .before .step2 .ensures)))
-    (c .rise-within .ensures))
+    (asked RiseWithin {b = c .rise-within .result} (asked-rise (c .before)) (c .rise-within .ensures))
 
 returns-3 : tie.Need-returns-3
 returns-3 c =
