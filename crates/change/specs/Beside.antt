@@ -15,7 +15,7 @@ use Rattle.slopes.specs.Slopes.{tab}
 use Rattle.slopes.specs.Put.{put, length-put, put-inside, put-outside, tab-length, tab-entry}
 use Rattle.change.specs.Change.{beside, renewed}
 
--- in reach of point k
+-- in reach of point k: k − 1, k or k + 1
 pub record Near (k i : ℕ) : Type 0 where
   pub before : k ≤ i + 1
   pub behind : i ≤ k + 1

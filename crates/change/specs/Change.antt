@@ -1,5 +1,5 @@
 -- "Changing a point" of the exact rules, for a whole table. Whoever believes the promise of `point` believes this file and what it cites: the points as they would be
--- and the causes of a refusal, the slopes that are built, and the refusals.
+-- and the causes of a refusal (`Changed.antt` and `Table.antt` of `table`), the slopes that are built (`Slopes.antt` of `slopes`), and the refusals (of `rules`).
 use mathlib.Core.Path.{_≡_}
 use mathlib.Core.Bool.{Bool, cond, _||_}
 use mathlib.Core.List.{List}
@@ -13,20 +13,21 @@ use Rattle.table.specs.Table.{Table, entry}
 use Rattle.table.specs.Changed.{changedBy, HoldsAfter, changeOrder}
 use Rattle.slopes.specs.Slopes.{tab, builtSlope}
 
--- "slopes k−1, k and k+1, where they exist": whether slope i is one of them
+-- "slopes k−1, k and k+1": whether i is one of them. That it is k−1 is written as i + 1 = k, which no i is where k is 0.
 abbrev pub beside : (k i : ℕ) → Bool
 beside k i = eqb (i + 1) k || (eqb i k || eqb i (k + 1))
 
--- "No other entry changes": the list with f i at each of these places, and elsewhere as it was
+-- "where they exist [..]. No other entry changes, whatever the slopes were before": the list, as long as it was, with f i at each of these places that it has, and
+-- elsewhere as it was
 abbrev pub renewed : (k : ℕ) → (ℕ → ℤ) → List ℤ → List ℤ
 renewed k f list = tab (length list) (λ i. cond (beside k i) (f i) (entry list i))
 
--- "are those a build of the new points gives them"
+-- "slopes k−1, k and k+1 [..] are those a build of the new points gives them": the same definition of the slope at a point as a build has
 abbrev pub renewedSlopes : Change → Table → List ℤ
 renewedSlopes c t = renewed (c .point) (builtSlope (changedBy c t .knots) (changedBy c t .values)) (t .slopes)
 
--- What `point` answers and leaves: the first cause of a refusal in the order 1, 2, 7, 3, 4 and the three lists as they were; or none, "the point holds them" (the new knot
--- and value), and the slopes are renewed.
+-- What `point` answers and leaves, where `before` is the table at the call and `after` the table when it returns: the first cause of a refusal in the order 1, 2, 7, 3, 4,
+-- its first place, and the three lists as they were; or 0 at place 0, "the point holds them", the new knot and the new value, and its slopes are renewed.
 pub record Changed (c : Change) (before after : Table) (number place : ℕ) : Type 0 where
   pub refusal : Given (HoldsAfter c before) changeOrder number place
   pub knots : after .knots ≡ afterwards number (before .knots) (changedBy c before .knots)

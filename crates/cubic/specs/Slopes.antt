@@ -1,5 +1,5 @@
 -- "Slopes that are built" of the exact rules, from the pieces beside a point, as they are written there. Whoever believes a promise about
--- built slopes believes this file. U is the slope unit.
+-- built slopes believes this file. U is the slope unit, 256 in the exact rules. Products go before sums.
 use mathlib.Core.Bool.{cond}
 use lib.IntN.{ℤ, pos, _+ℤ_, _*ℤ_}
 use lib.Signed.{leZ}
@@ -17,7 +17,7 @@ meanBelow h₁ z₁ h₂ z₂ = (h₁ +ℤ pos 2 *ℤ h₂) *ℤ h₁ *ℤ z₂ 
 abbrev pub meanAbove : (U h₁ z₁ h₂ z₂ : ℤ) → ℤ
 meanAbove U h₁ z₁ h₂ z₂ = pos 3 *ℤ U *ℤ (h₁ +ℤ h₂) *ℤ z₁ *ℤ z₂
 
--- of two rises above 0: their quotient "rounded down"
+-- for two rises above 0: that numerator over that denominator, "rounded down"
 abbrev pub mean : (U h₁ z₁ h₂ z₂ : ℤ) → ℤ
 mean U h₁ z₁ h₂ z₂ = floorOf (meanAbove U h₁ z₁ h₂ z₂) (meanBelow h₁ z₁ h₂ z₂)
 

@@ -1,4 +1,5 @@
--- The definitions that the contracts of this crate cite. Whoever believes its promises believes this file.
+-- The definitions that the contracts of this crate cite. Whoever believes its promises believes this file. An integer is `pos n`, which is n, or `negsuc n`,
+-- which is −(n + 1).
 use mathlib.Core.Path.{_≡_}
 use mathlib.Core.Bool.{Bool, true, false}
 use Prim.Native.Nat.{zero, suc, _/_}
@@ -31,6 +32,7 @@ floorOf n (negsuc d) = pos 0
 pub record Quotient (n d q : ℤ) : Type 0 where
   pub is : q ≡ floorOf n d
 
+-- x without its sign
 abbrev pub magnitude : ℤ → ℤ
 magnitude x = pos (natAbs x)
 

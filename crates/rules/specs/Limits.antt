@@ -13,7 +13,7 @@ pub record CountWithin (n : ℕ) : Type 0 where
 abbrev pub WidthWithin : ℤ → Type 0
 WidthWithin h = Between (pos 1) h (pos 1024)
 
--- "z from −1,048,576 to 1,048,576"
+-- "z from −1,048,576 to 1,048,576": `negsuc n` is −(n + 1)
 abbrev pub RiseWithin : ℤ → Type 0
 RiseWithin z = Between (negsuc 1048575) z (pos 1048576)
 

@@ -4,7 +4,8 @@ use mathlib.Core.List.{List, [], _∷_}
 use lib.IntN.{ℤ}
 
 -- "The number given is the first cause that holds in this order", and its place is the first at which it does; "0 | none, done | 0".
--- `Holds c p` says that the cause with the number c holds at the place p.
+-- `Holds c p` says that the cause with the number c holds at the place p. `done`: no cause is left to ask. `refused`: the first cause of the order holds at p and at
+-- no place before it. `passed`: it holds nowhere, and the rest of the order decides.
 pub data Given (Holds : ℕ → ℕ → Type 0) : List ℕ → ℕ → ℕ → Type 0 where
   done : Given Holds [] 0 0
   refused : {c p : ℕ} {order : List ℕ} → Holds (suc c) p → ((q : ℕ) → q < p → Holds (suc c) q → ⊥) → Given Holds (suc c ∷ order) (suc c) p

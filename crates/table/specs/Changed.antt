@@ -7,12 +7,13 @@ use Rattle.table.specs.declared.changed.Change.{Change}
 use Rattle.table.specs.Table.{Table, table, points, Holds}
 
 module _ (c : Change) (t : Table) where
-  -- "the points as they would be after the change": the new knot and the new value at the point with this number, where there is one, and all else as it was.
-  -- The lists are as long as before, so that 1 and 2 are the same of these points as of those before.
+  -- "the points as they would be after the change": the new knot and the new value at the place with this number, in each list that has one, and all else as it was.
+  -- The lists are as long as before. Where they are not equally long one of them may lack the place; such a table is refused by 1.
   abbrev pub changedBy : Table
   changedBy = table (set (t .knots) (c .point) (c .knot)) (set (t .values) (c .point) (c .value)) (t .slopes)
 
-  -- "7 | no point with this number | 0", beside the causes "asked of the points as they would be after the change"
+  -- "7 | no point with this number | 0", beside the causes that these points have: "3 and 4 are asked of the points as they would be after the change", and 1 and 2 may
+  -- be, as no length changes. 5 is not in the order. Where 7 is asked, 1 has been, so that the knots are as many as the points.
   pub data HoldsAfter : ℕ → ℕ → Type 0 where
     of-points : {number place : ℕ} → Holds changedBy number place → HoldsAfter number place
     no-such-point : (c .point < points t → ⊥) → HoldsAfter 7 0

@@ -17,7 +17,7 @@ abbrev pub table : (knots values slopes : List ℤ) → Table
 table ks vs ss = record { knots = ks; values = vs; slopes = ss }
 
 -- Entry i of a list. Where there is none it is 0, which no answer rests on: that the lists are equally long (1) and have two points or more (2) is asked
--- first.
+-- first, and then only pieces, points and slopes that are there are looked at.
 abbrev pub entry : List ℤ → ℕ → ℤ
 entry list i = getD list i (pos 0)
 
@@ -27,18 +27,21 @@ abbrev pub step : List ℤ → ℕ → ℤ
 step list i = entry list (i + 1) -ℤ entry list i
 
 module _ (t : Table) where
-  -- how many points there are, where the lists are equally long
+  -- how many points there are, where the lists are equally long; else the number of knots, which no answer rests on
   abbrev pub points : ℕ
   points = length (t .knots)
 
+  -- as many values and as many slopes as knots
   pub record SameLengths : Type 0 where
     pub values : length (t .values) ≡ points
     pub slopes : length (t .slopes) ≡ points
 
+  -- piece i is monotone with the slopes at its two ends
   abbrev pub MonotoneAt : ℕ → Type 0
   MonotoneAt i = Monotone unit (step (t .knots) i) (step (t .values) i) (entry (t .slopes) i) (entry (t .slopes) (i + 1))
 
   -- Causes 1 to 5 of "Refusal numbers": the one with this number holds at this place. 3, 4 and 5 hold at each faulty piece; `Given` takes the first.
+  -- `i + 1 < points` says that there is a piece i, and `X → ⊥` that X is not so.
   pub data Holds : ℕ → ℕ → Type 0 where
     lengths-differ : (SameLengths → ⊥) → Holds 1 0
     too-few-or-many : (CountWithin points → ⊥) → Holds 2 0

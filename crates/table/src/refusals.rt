@@ -60,7 +60,7 @@ pub fn points(knots: &[i32], values: &[i32], slopes: &[i32]) -> Refusal
     steps(knots, values, slopes, none(knots.len()))
 }
 
-// 1, 2, 7, 3 and 4: what is asked of a change, 3 and 4 of the points as they would be after it.
+// 1, 2, 7, 3 and 4: what is asked of a change, 3 and 4 of the points as they would be after it. The slopes are counted and not read.
 pub fn changed_points(knots: &[i32], values: &[i32], slopes: &[i32], change: Change) -> Refusal
     ensures { λ r. ⌜ Given (HoldsAfter change (table (now (knots .entry)) (now (values .entry)) (now (slopes .entry)))) changeOrder (r .number) (r .place) ⌝ }
 {
