@@ -11,7 +11,6 @@ use lib.ListN.{length}
 use lib.Seq.{ext-getD}
 use borrow.Author.Tests.{eqb-true, eqb-false}
 use Rattle.table.specs.Table.{entry}
-use Rattle.slopes.specs.Slopes.{tab}
 use Rattle.slopes.specs.Put.{put, length-put, put-inside, put-outside, tab-length, tab-entry}
 use Rattle.change.specs.Change.{beside, renewed}
 

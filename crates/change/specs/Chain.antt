@@ -1,5 +1,5 @@
 -- "Change one point of a table whose slopes we built, any number of times, refused changes among them: the slopes then equal those built afresh."
-use mathlib.Core.Path.{_≡_, refl, sym, _∙_, ap, subst₂}
+use mathlib.Core.Path.{_≡_, refl, sym, subst₂}
 use mathlib.Core.List.{List, [], _∷_, _++_}
 use Prim.Native.Nat.{ℕ, zero, suc}
 use lib.IntN.{ℤ}

@@ -7,7 +7,6 @@ use lib.IntN.{pos, negsuc}
 use lib.Signed.{leZ-yes}
 use Rattle.rules.specs.Limits.{CountWithin, WidthWithin, RiseWithin}
 use Rattle.rules.specs.Refusals.{refused, passed}
-use Rattle.table.specs.declared.changed.Change.{Change}
 use Rattle.table.specs.Table.{Table, table, step, Holds, width-outside}
 use Rattle.table.specs.Accepted.{same-length-passes, count-passes, points-accepted}
 use Rattle.table.specs.Changed.{changedBy}

@@ -6,11 +6,11 @@ use Prim.Native.Nat.{ℕ, _<_, _≤_}
 use native.Mathlib.Omega.{arith}
 use lib.IntN.{ℤ}
 use Rattle.rules.specs.Refusals.{Given, done, refused, passed}
-use Rattle.rules.specs.Order.{one-given, stopped}
+use Rattle.rules.specs.Order.{one-given, stopped, carried}
 use Rattle.table.specs.declared.changed.Change.{Change}
-use Rattle.table.specs.Table.{Table, points, Holds, buildOrder}
-use Rattle.table.specs.Changed.{changedBy, HoldsAfter, of-points, changeOrder}
-use Rattle.table.specs.AfterChange.{as-a-build, points-alone, refused-nowhere, point-there}
+use Rattle.table.specs.Table.{Table, points, buildOrder}
+use Rattle.table.specs.Changed.{changedBy, HoldsAfter, changeOrder}
+use Rattle.table.specs.AfterChange.{beside-7, as-a-build, refused-nowhere, point-there}
 use Rattle.slopes.specs.Slopes.{Built}
 use Rattle.change.specs.Change.{Changed}
 
@@ -20,10 +20,6 @@ pub data Nowhere (m q : ℕ) : (number place : ℕ) → Type 0 where
   by-the-lists : (m ≡ 1) ⊎ (m ≡ 2) → Nowhere m q m q
   by-7 : (m ≡ 1 → ⊥) → (m ≡ 2 → ⊥) → Nowhere m q 7 0
 
--- a cause beside 7 that does not hold of the points does not hold for the change
-beside-7 : (c : Change) (t : Table) (d r : ℕ) → (d ≡ 7 → ⊥) → (Holds (changedBy c t) d r → ⊥) → HoldsAfter c t d r → ⊥
-beside-7 c t d r e f h = f (points-alone c t d r e h)
-
 answered : {H : ℕ → ℕ → Type 0} {order : List ℕ} {number place m q n p : ℕ} → Given H order number place → Given H order n p → Nowhere m q number place → Nowhere m q n p
 answered {m = m} {q = q} g h is = let e = one-given g h in subst₂ (Nowhere m q) (e .0) (e .1) is
 
@@ -32,16 +28,13 @@ later (refused h e) = (λ e. omega arith, λ e. omega arith)
 later (passed f (refused h e)) = (λ e. omega arith, λ e. omega arith)
 later (passed f (passed g done)) = (λ e. omega arith, λ e. omega arith)
 
-nowhere : {c : Change} {t : Table} {m q n p : ℕ} → points t ≤ c .point → Given (Holds (changedBy c t)) buildOrder m q → Given (HoldsAfter c t) changeOrder n p → Nowhere m q n p
-nowhere {c} {t} l (refused h e) g = answered (refused (of-points h) (λ r k. beside-7 c t 1 r (λ e. omega arith) (e r k))) g (by-the-lists (inl refl))
-nowhere {c} {t} l (passed f (refused h e)) g =
-    answered (passed (λ r. beside-7 c t 1 r (λ e. omega arith) (f r)) (refused (of-points h) (λ r k. beside-7 c t 2 r (λ e. omega arith) (e r k)))) g (by-the-lists (inr refl))
+nowhere : {c : Change} {t : Table} {m q n p : ℕ} → points t ≤ c .point → Given (HoldsAfter c t) buildOrder m q → Given (HoldsAfter c t) changeOrder n p → Nowhere m q n p
+nowhere l (refused h e) g = answered (refused h e) g (by-the-lists (inl refl))
+nowhere l (passed f (refused h e)) g = answered (passed f (refused h e)) g (by-the-lists (inr refl))
 nowhere {c} {t} l (passed f (passed g more)) h =
-    answered
-    (passed (λ r. beside-7 c t 1 r (λ e. omega arith) (f r)) (passed (λ r. beside-7 c t 2 r (λ e. omega arith) (g r)) (stopped (3 ∷ 4 ∷ []) (λ e. omega arith) (refused-nowhere c t l))))
-    h (by-7 (later more .0) (later more .1))
+    answered (passed f (passed g (stopped (3 ∷ 4 ∷ []) (λ e. omega arith) (refused-nowhere c t l)))) h (by-7 (later more .0) (later more .1))
 
--- the change c of the table t answers n at p, and a fresh build of the changed points, over a slope list of the same length, m at q
+-- the change c of the table t answers n at p, and a fresh build of the changed points, over the same slope list, answers m at q
 module _ {c : Change} {t u : Table} {after : List ℤ} {n p m q : ℕ} (change : Changed c t u n p) (build : Built (changedBy c t .knots) (changedBy c t .values) (t .slopes) after m q) where
   -- where the point is there, both answer the same
   pub refused-as-a-build-is : c .point < points t → (n ≡ m) × (p ≡ q)
@@ -49,7 +42,7 @@ module _ {c : Change} {t u : Table} {after : List ℤ} {n p m q : ℕ} (change :
 
   -- where it isn't, the change is refused
   pub refused-where-no-point-is : points t ≤ c .point → Nowhere m q n p
-  refused-where-no-point-is l = nowhere l (build .refusal) (change .refusal)
+  refused-where-no-point-is l = nowhere l (carried (beside-7 c t buildOrder tt) (build .refusal)) (change .refusal)
 
   -- so it is made exactly where the point is there and the build is not refused
   pub made-only-then : n ≡ 0 → (c .point < points t) × (m ≡ 0)

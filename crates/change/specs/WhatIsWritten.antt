@@ -2,18 +2,18 @@
 use mathlib.Core.Path.{_≡_, refl, sym, _∙_, ap, ap₂}
 use mathlib.Core.Bool.{Bool, true, false, cond}
 use mathlib.Core.List.{List}
-use Prim.Native.Nat.{ℕ, _+_, _≤_, _<_}
+use Prim.Native.Nat.{ℕ, _<_}
 use native.Mathlib.Omega.{arith}
 use lib.IntN.{ℤ, pos}
-use lib.ListN.{length, length-set}
+use lib.ListN.{length}
 use lib.Seq.{getD-set-same, getD-set-other}
 use Rattle.table.specs.declared.changed.Change.{Change}
 use Rattle.table.specs.Table.{Table, entry, points}
 use Rattle.table.specs.Changed.{changedBy}
 use Rattle.table.specs.AfterChange.{point-there, equally-long}
 use Rattle.slopes.specs.Slopes.{builtSlope}
-use Rattle.slopes.specs.Put.{tab-length, tab-entry}
-use Rattle.change.specs.Change.{beside, renewedSlopes, Changed}
+use Rattle.slopes.specs.Put.{tab-entry}
+use Rattle.change.specs.Change.{beside, Changed}
 use Rattle.change.specs.Beside.{Near, beside-near, beside-far}
 
 module _ {c : Change} {t u : Table} {place : ℕ} (change : Changed c t u 0 place) where

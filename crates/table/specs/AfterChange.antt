@@ -51,7 +51,7 @@ module _ (c : Change) (t : Table) where
       count-before p (too-few-or-many f) = too-few-or-many (λ w. f (subst CountWithin (sym as-many) w))
 
   -- the causes beside 7 are those of the points
-  pub points-alone : (d p : ℕ) → (d ≡ 7 → ⊥) → HoldsAfter c t d p → Holds (changedBy c t) d p
+  points-alone : (d p : ℕ) → (d ≡ 7 → ⊥) → HoldsAfter c t d p → Holds (changedBy c t) d p
   points-alone d p f (of-points h) = h
   points-alone d p f (no-such-point g) = absurd (f refl)
 

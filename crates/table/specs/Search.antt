@@ -1,9 +1,8 @@
 -- What the search for a faulty piece asks of each piece, by its cause.
 use mathlib.Core.Path.{_≡_, sym, subst}
-use mathlib.Core.List.{List, [], _∷_}
+use mathlib.Core.List.{[], _∷_}
 use Prim.Native.Nat.{ℕ, _+_, _-_, _<_}
 use native.Mathlib.Omega.{arith}
-use lib.IntN.{ℤ}
 use Rattle.rules.specs.Refusals.{Given, done, passed}
 use Rattle.rules.specs.Order.{refused-by}
 use Rattle.rules.specs.Limits.{WidthWithin, RiseWithin}

@@ -1,11 +1,9 @@
 -- `table::changed::entry` meets its contract.
-use mathlib.Core.Path.{_≡_, sym, _∙_, ap, subst}
-use native.Mathlib.Omega.{arith}
+use mathlib.Core.Path.{_≡_, sym, _∙_, subst}
 use Prim.Native.Nat.{ℕ}
 use lib.IntN.{pos}
 use lib.Seq.{getD-set-same, getD-set-other}
-use lib.ListN.{length, set}
-use mir.Syntax.{w32}
+use lib.ListN.{set}
 use mir.Facts.{toZ-ofZ}
 use borrow.Author.Needs.{needs}
 use Rattle.table.specs.Table.{entry}
