@@ -15,12 +15,6 @@ use Rattle.table.specs.Table.{Table, table, points, SameLengths, Holds, 
 use Rattle.table.specs.Changed.{changedBy, HoldsAfter, of-points, no-such-point, changeOrder}
 use Rattle.table.specs.Accepted.{Points, at-most, same-lengths, accepted-points}
 
--- a point that is not there changes nothing
-pub changed-nowhere : (c : Change) (t : Table) → points t ≤ c .point → length (t .values) ≡ points t → changedBy c t ≡ t
-changed-nowhere c t l e =
-    ap₂ (λ (ks vs : List ℤ). table ks vs (t .slopes)) (set-out (t .knots) (c .point) (c .knot) l)
-    (set-out (t .values) (c .point) (c .value) (subst (λ (n : ℕ). n ≤ c .point) (sym e) l))
-
 module _ (c : Change) (t : Table) where
   as-many : points (changedBy c t) ≡ points t
   as-many = length-set (t .knots) (c .point) (c .knot)

@@ -1,7 +1,6 @@
 // A change of one point, and the points as they would be after it: read so, and not written.
 ghost use mathlib.Core.Path.{_≡_};
 ghost use Prim.Native.Nat.{_+_, _<_};
-ghost use lib.IntN.{pos};
 ghost use lib.ListN.{length, set};
 ghost use Rattle.table.specs.Table.{entry, step};
 
@@ -10,19 +9,6 @@ pub struct Change {
     pub point: usize,
     pub knot: i32,
     pub value: i32,
-}
-
-// No change of a table with so many points: it has none with this number.
-pub(crate) fn none(points: usize) -> Change
-    ensures { λ r. ⌜ r .point ≡ points ⌝ }
-    ensures { λ r. ⌜ r .knot ≡ pos 0 ⌝ }
-    ensures { λ r. ⌜ r .value ≡ pos 0 ⌝ }
-{
-    Change {
-        point: points,
-        knot: 0,
-        value: 0,
-    }
 }
 
 // Entry i of the list as it would be with `new` at the place `at`, if it has this place.

@@ -1,10 +1,9 @@
 // Why a table is refused: 1, 2, 3, 4 for its points, and 5 for its slopes, in this order; and why a change of a point is: 1, 2, 7, 3, 4.
 ghost use mathlib.Core.List.{[], _∷_};
 ghost use Rattle.rules.specs.Refusals.{Given};
-ghost use Rattle.table.specs.Table.{table, SameLengths, Holds, buildOrder, checkOrder};
-ghost use Rattle.table.specs.Changed.{changedBy, HoldsAfter, changeOrder};
+ghost use Rattle.table.specs.Table.{table, Holds, buildOrder, checkOrder};
+ghost use Rattle.table.specs.Changed.{HoldsAfter, changeOrder};
 use crate::changed::Change;
-use crate::changed::none;
 use crate::search;
 use crate::search::Cause;
 use rules::Refusal;
@@ -37,18 +36,6 @@ fn lengths(knots: &[i32], values: &[i32], slopes: &[i32]) -> Refusal
     }
 }
 
-// 3 and 4, of the points as they would be after the change.
-fn steps(knots: &[i32], values: &[i32], slopes: &[i32], change: Change) -> Refusal
-    requires { ⌜ SameLengths (table (now knots) (now values) (now slopes)) ⌝ }
-    ensures { λ r. ⌜ Given (Holds (changedBy change (table (now (knots .entry)) (now (values .entry)) (now (slopes .entry))))) (3 ∷ 4 ∷ []) (r .number) (r .place) ⌝ }
-{
-    let width = search::first(Cause::Width, knots, values, slopes, change);
-    if width.number != rules::DONE {
-        return width;
-    }
-    search::first(Cause::Rise, knots, values, slopes, change)
-}
-
 // 1, 2, 3 and 4: what is asked of the points. The slopes are counted and not read.
 pub fn points(knots: &[i32], values: &[i32], slopes: &[i32]) -> Refusal
     ensures { λ r. ⌜ Given (Holds (table (now (knots .entry)) (now (values .entry)) (now (slopes .entry)))) buildOrder (r .number) (r .place) ⌝ }
@@ -57,7 +44,11 @@ pub fn points(knots: &[i32], values: &[i32], slopes: &[i32]) -> Refusal
     if counted.number != rules::DONE {
         return counted;
     }
-    steps(knots, values, slopes, none(knots.len()))
+    let width = search::first(Cause::Width, knots, values, slopes);
+    if width.number != rules::DONE {
+        return width;
+    }
+    search::first(Cause::Rise, knots, values, slopes)
 }
 
 // 1, 2, 7, 3 and 4: what is asked of a change, 3 and 4 of the points as they would be after it. The slopes are counted and not read.
@@ -74,7 +65,11 @@ pub fn changed_points(knots: &[i32], values: &[i32], slopes: &[i32], change: Cha
             place: 0,
         };
     }
-    steps(knots, values, slopes, change)
+    let width = search::first(Cause::WidthAfter(change), knots, values, slopes);
+    if width.number != rules::DONE {
+        return width;
+    }
+    search::first(Cause::RiseAfter(change), knots, values, slopes)
 }
 
 // 1, 2, 3, 4 and 5: the table check, of any proposed slopes.
@@ -85,5 +80,5 @@ pub fn check(knots: &[i32], values: &[i32], slopes: &[i32]) -> Refusal
     if asked.number != rules::DONE {
         return asked;
     }
-    search::first(Cause::Bend, knots, values, slopes, none(knots.len()))
+    search::first(Cause::Bend, knots, values, slopes)
 }

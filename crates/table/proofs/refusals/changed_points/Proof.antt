@@ -6,7 +6,7 @@ use native.Mathlib.Omega.{arith}
 use lib.ListN.{length}
 use borrow.Author.Needs.{needs}
 use Rattle.rules.specs.Order.{stopped, went-on, clear}
-use Rattle.table.specs.Table.{table}
+use Rattle.table.specs.Table.{table, SameLengths}
 use Rattle.table.specs.Accepted.{same-lengths}
 use Rattle.table.specs.AfterChange.{as-counted, as-stepped, refused-nowhere, taken-there}
 use Rattle.table.proofs.refusals.changed_points.Statement.{statement}
@@ -32,15 +32,30 @@ returns-2 c =
     let t = table (d .before .before .before .args .knots .now) (d .before .before .before .args .values .now) (d .before .before .before .args .slopes .now) in
     went-on (d .if1 .left) (as-counted change t (d .before .before .lengths .ensures)) (stopped (3 ∷ 4 ∷ []) {n = 7} (λ (e : 7 ≡ 0). omega arith) (refused-nowhere change t (not-there c)))
 
-steps-requires : tie.Need-steps-requires
-steps-requires c κs =
-    let d = c .before .before in
-    same-lengths (clear (d .if1 .left) (d .before .before .lengths .ensures))
+equally-long : (c : tie.Else1) → let s = c .before .before .before .args in SameLengths (table (s .knots .now) (s .values .now) (s .slopes .now))
+equally-long c = same-lengths (clear (c .if1 .left) (c .before .before .lengths .ensures))
+
+first-requires : tie.Need-first-requires
+first-requires c κs = (equally-long (c .before .before), tt)
 
 returns-3 : tie.Need-returns-3
 returns-3 c =
-    let d = c .before .before .before in
-    went-on (d .if1 .left) (as-counted _ _ (d .before .before .lengths .ensures)) (went-on refl (taken-there _ _ (is-there (c .before))) (as-stepped _ _ (c .steps .ensures)))
+    let e = c .before .before .before in
+    let d = e .before .before in
+    went-on (d .if1 .left) (as-counted _ _ (d .before .before .lengths .ensures))
+    (went-on refl (taken-there _ _ (is-there e)) (as-stepped _ _ (stopped (4 ∷ []) (c .if3 .taken) (c .before .before .first .ensures))))
+
+first-requires-2 : tie.Need-first-requires-2
+first-requires-2 c κs = (equally-long (c .before .before .before .before .before), tt)
+
+returns-4 : tie.Need-returns-4
+returns-4 c =
+    let e = c .before .before .before .before in
+    let d = e .before .before in
+    went-on (d .if1 .left) (as-counted _ _ (d .before .before .lengths .ensures))
+    (went-on refl (taken-there _ _ (is-there e)) (as-stepped _ _ (went-on (c .before .if3 .left) (c .before .before .before .first .ensures) (c .first2 .ensures))))
 
 pub changed-points-spec : {M : Type 1} → statement M
-changed-points-spec = tie.close (tie.spec lengths-requires returns returns-2 steps-requires returns-3)
+changed-points-spec =
+    tie.close
+    (tie.spec lengths-requires returns returns-2 first-requires returns-3 first-requires-2 returns-4)

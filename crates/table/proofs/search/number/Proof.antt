@@ -14,6 +14,12 @@ enum-told-2 c = search needs
 enum-told-3 : tie.Need-enum-told-3
 enum-told-3 c = search needs
 
+enum-told-4 : tie.Need-enum-told-4
+enum-told-4 c = search needs
+
+enum-told-5 : tie.Need-enum-told-5
+enum-told-5 c = search needs
+
 returns : tie.Need-returns
 returns c = sym (ap numberOf (c .enum-told .given .1))
 
@@ -23,5 +29,11 @@ returns-2 c = sym (ap numberOf (c .enum-told2 .given .1))
 returns-3 : tie.Need-returns-3
 returns-3 c = sym (ap numberOf (c .enum-told3 .given .1))
 
+returns-4 : tie.Need-returns-4
+returns-4 c = sym (ap numberOf (c .enum-told4 .given .1))
+
+returns-5 : tie.Need-returns-5
+returns-5 c = sym (ap numberOf (c .enum-told5 .given .1))
+
 pub number-spec : {M : Type 1} → statement M
-number-spec = tie.close (tie.spec enum-told enum-told-2 enum-told-3 returns returns-2 returns-3)
+number-spec = tie.close (tie.spec enum-told enum-told-2 enum-told-3 enum-told-4 enum-told-5 returns returns-2 returns-3 returns-4 returns-5)
