@@ -1,17 +1,15 @@
 -- Laws of the points as they would be after a change.
-use mathlib.Core.Path.{_≡_, refl, sym, _∙_, ap₂, subst}
+use mathlib.Core.Path.{_≡_, refl, sym, _∙_, subst}
 use mathlib.Core.List.{List, [], _∷_}
 use Prim.Native.Nat.{ℕ, suc, _≤_, _<_}
 use native.Mathlib.Omega.{arith}
 use lib.Dec.{T}
-use lib.IntN.{ℤ}
 use lib.ListN.{length, length-set}
-use lib.Seq.{set-out}
 use Rattle.rules.specs.Limits.{CountWithin}
 use Rattle.rules.specs.Refusals.{Given, done, refused, passed}
 use Rattle.rules.specs.Order.{Same, none, also, without, one-more-cause, other-way, carried, unasked, asked-too, clear, behind}
 use Rattle.table.specs.declared.changed.Change.{Change}
-use Rattle.table.specs.Table.{Table, table, points, SameLengths, Holds, lengths-differ, too-few-or-many, buildOrder}
+use Rattle.table.specs.Table.{Table, points, SameLengths, Holds, lengths-differ, too-few-or-many, buildOrder}
 use Rattle.table.specs.Changed.{changedBy, HoldsAfter, of-points, no-such-point, changeOrder}
 use Rattle.table.specs.Accepted.{Points, at-most, same-lengths, accepted-points}
 

@@ -5,8 +5,10 @@ use Prim.Native.Nat.{_≤_, _<_}
 use native.Mathlib.Omega.{arith}
 use lib.ListN.{length}
 use borrow.Author.Needs.{needs}
+use Rattle.rules.specs.Refusals.{Given}
 use Rattle.rules.specs.Order.{stopped, went-on, clear}
-use Rattle.table.specs.Table.{table, SameLengths}
+use Rattle.table.specs.Table.{Table, table, SameLengths, Holds}
+use Rattle.table.specs.Changed.{changedBy}
 use Rattle.table.specs.Accepted.{same-lengths}
 use Rattle.table.specs.AfterChange.{as-counted, as-stepped, refused-nowhere, taken-there}
 use Rattle.table.proofs.refusals.changed_points.Statement.{statement}
@@ -35,25 +37,38 @@ returns-2 c =
 equally-long : (c : tie.Else1) → let s = c .before .before .before .args in SameLengths (table (s .knots .now) (s .values .now) (s .slopes .now))
 equally-long c = same-lengths (clear (c .if1 .left) (c .before .before .lengths .ensures))
 
+-- what the search answers of the points as they would be
+abbrev start : tie.Else2 → tie.Start
+start c = c .before .before .before .before .before
+
+abbrev then : tie.Else2 → Table
+then c = let s = start c .args in changedBy (s .change) (table (s .knots .now) (s .values .now) (s .slopes .now))
+
 first-requires : tie.Need-first-requires
 first-requires c κs = (equally-long (c .before .before), tt)
+
+widths : (c : tie.After-first) → Given (Holds (then (c .before))) (3 ∷ []) (c .first .result .number) (c .first .result .place)
+widths c = c .first .ensures
+
+first-requires-2 : tie.Need-first-requires-2
+first-requires-2 c κs = (equally-long (c .before .before .before .before .before), tt)
+
+rises : (c : tie.After-first2) → Given (Holds (then (c .before .before .before .before))) (4 ∷ []) (c .first2 .result .number) (c .first2 .result .place)
+rises c = c .first2 .ensures
 
 returns-3 : tie.Need-returns-3
 returns-3 c =
     let e = c .before .before .before in
     let d = e .before .before in
     went-on (d .if1 .left) (as-counted _ _ (d .before .before .lengths .ensures))
-    (went-on refl (taken-there _ _ (is-there e)) (as-stepped _ _ (stopped (4 ∷ []) (c .if3 .taken) (c .before .before .first .ensures))))
-
-first-requires-2 : tie.Need-first-requires-2
-first-requires-2 c κs = (equally-long (c .before .before .before .before .before), tt)
+    (went-on refl (taken-there _ _ (is-there e)) (as-stepped _ _ (stopped (4 ∷ []) (c .if3 .taken) (widths (c .before .before)))))
 
 returns-4 : tie.Need-returns-4
 returns-4 c =
     let e = c .before .before .before .before in
     let d = e .before .before in
     went-on (d .if1 .left) (as-counted _ _ (d .before .before .lengths .ensures))
-    (went-on refl (taken-there _ _ (is-there e)) (as-stepped _ _ (went-on (c .before .if3 .left) (c .before .before .before .first .ensures) (c .first2 .ensures))))
+    (went-on refl (taken-there _ _ (is-there e)) (as-stepped _ _ (went-on (c .before .if3 .left) (widths (c .before .before .before)) (rises c))))
 
 pub changed-points-spec : {M : Type 1} → statement M
 changed-points-spec =

@@ -81,6 +81,14 @@ step-requires-6 c κs = search needs
 rise-within-requires-2 : tie.Need-rise-within-requires-2
 rise-within-requires-2 c κs = search needs
 
+-- ---- a width, a rise
+
+width-now : (c : tie.After-step) → let s = c .before .before .before .args in toZ w64 (ofZ w64 (c .step .result)) ≡ step (s .knots .now) (s .i)
+width-now c = returned w64 (c .step .ok) (c .step .ensures)
+
+rise-now : (c : tie.After-step2) → let s = c .before .before .before .args in toZ w64 (ofZ w64 (c .step2 .result)) ≡ step (s .values .now) (s .i)
+rise-now c = returned w64 (c .step2 .ok) (c .step2 .ensures)
+
 -- ---- a bend: only pieces within the limits are asked for one
 
 width : (c : tie.After-step3) → let s = c .before .before .before .args in toZ w64 (ofZ w64 (c .step3 .result)) ≡ step (s .knots .now) (s .i)
@@ -109,13 +117,13 @@ returns : tie.Need-returns
 returns c =
     let args = c .before .before .before .before .args in
     for-cause (args .cause) (table (args .knots .now) (args .values .now) (args .slopes .now)) (args .i) (c .before .before .enum-told .given .1)
-    (asked WidthWithin (returned w64 (c .before .step .ok) (c .before .step .ensures)) (c .width-within .ensures))
+    (asked WidthWithin {b = c .width-within .result} (width-now (c .before)) (c .width-within .ensures))
 
 returns-2 : tie.Need-returns-2
 returns-2 c =
     let args = c .before .before .before .before .args in
     for-cause (args .cause) (table (args .knots .now) (args .values .now) (args .slopes .now)) (args .i) (c .before .before .enum-told2 .given .1)
-    (asked RiseWithin (returned w64 (c .before .step2 .ok) (c .before .step2 .ensures)) (c .rise-within .ensures))
+    (asked RiseWithin {b = c .rise-within .result} (rise-now (c .before)) (c .rise-within .ensures))
 
 returns-3 : tie.Need-returns-3
 returns-3 c =
