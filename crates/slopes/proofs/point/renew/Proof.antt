@@ -22,7 +22,7 @@ abbrev μ-loop : tie.MeasureT-loop
 loop-holds : tie.Need-loop-holds Inv-loop μ-loop
 loop-holds c =
     let s = c .args in
-    (omega arith, c .pre .1 .1 .0, put-none (builtSlope (s .knots .now) (s .values .now)) (s .from) (s .slopes .now))
+    (omega (arith, c .pre .1 .1 .0), omega (arith, c .pre .1 .1 .0), put-none (builtSlope (s .knots .now) (s .values .now)) (s .from) (s .slopes .now))
 
 -- the list is as long as it was, and i is in it
 full : (c : tie.At-loop Inv-loop μ-loop) → length (c .loop .slopes) ≡ length (c .before .args .knots .now)
