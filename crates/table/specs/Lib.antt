@@ -3,3 +3,4 @@ pub mod AfterChange
 pub mod Changed
 pub mod Search
 pub mod Table
+pub mod Tested

@@ -1,0 +1,73 @@
+-- What the definition of a monotone piece says of the cubic itself.
+use mathlib.Core.Path.{_≡_, sym, _∙_}
+use mathlib.Core.List.{[], _∷_}
+use Prim.Native.Nat.{ℕ, _≤_}
+use native.Mathlib.Omega.{arith}
+use lib.Dec.{lit≤}
+use lib.IntN.{ℤ, pos, negℤ, _+ℤ_, _-ℤ_, _*ℤ_}
+use lib.Signed.{_≤ℤ_, _<ℤ_, ≤ℤ-refl}
+use Rattle.integers.specs.Ring.{ring, quote}
+use Rattle.integers.specs.Linear.{lin, says}
+use Rattle.integers.specs.Order.{0≤-number, pos-≤}
+use Rattle.cubic.specs.Piece.{unit, slopeAt, riseAt, Monotone}
+use Rattle.cubic.specs.Rise.{at-left}
+use Rattle.cubic.specs.InOrder.{the-cubic-is-in-order}
+
+-- `slopeAt` is the slope of `riseAt`: from the fraction k/q on to (k + e)/q the cubic rises by e times its slope there, and a rest with e².
+pub slopeAt-is-the-slope-of-riseAt : (Z a b k e q : ℤ)
+    → riseAt Z a b (k +ℤ e) q ≡ riseAt Z a b k q +ℤ e *ℤ slopeAt Z a b k q +ℤ e *ℤ e *ℤ ((pos 3 *ℤ Z -ℤ pos 2 *ℤ a -ℤ b) *ℤ q +ℤ (a +ℤ b -ℤ pos 2 *ℤ Z) *ℤ (pos 3 *ℤ k +ℤ e))
+slopeAt-is-the-slope-of-riseAt Z a b k e q = ring (Z ∷ a ∷ b ∷ k ∷ e ∷ q ∷ []) (search quote depth 30 fits 9000) tt
+
+module _ (h z m n : ℤ) where
+  -- the slope of the piece's cubic at the fraction k/q of its width, and what the cubic has risen by up to there, each over a positive number
+  abbrev pub slope : (k q : ℕ) → ℤ
+  slope k q = slopeAt (unit *ℤ z) (m *ℤ h) (n *ℤ h) (pos k) (pos q)
+
+  abbrev pub rise : (k q : ℕ) → ℤ
+  rise k q = riseAt (unit *ℤ z) (m *ℤ h) (n *ℤ h) (pos k) (pos q)
+
+  -- "its cubic has no slope against its rise at any fraction of its width, or, without a rise, is level throughout"
+  pub record NoSlopeAgainstItsRise : Type 0 where
+    pub rising : pos 0 <ℤ z → (k q : ℕ) → 1 ≤ q → k ≤ q → pos 0 ≤ℤ slope k q
+    pub falling : z <ℤ pos 0 → (k q : ℕ) → 1 ≤ q → k ≤ q → slope k q ≤ℤ pos 0
+    pub level : z ≡ pos 0 → (k q : ℕ) → 1 ≤ q → k ≤ q → rise k q ≡ pos 0
+
+-- ---- this is the exact rules' definition
+
+turned : (Z a b k q : ℤ) → slopeAt (negℤ Z) (negℤ a) (negℤ b) k q ≡ negℤ (slopeAt Z a b k q)
+turned Z a b k q = ring (Z ∷ a ∷ b ∷ k ∷ q ∷ []) (search quote depth 30 fits 9000) tt
+
+down : {x y : ℤ} → y ≡ negℤ x → pos 0 ≤ℤ y → x ≤ℤ pos 0
+down {x} {y} = lin (x ∷ y ∷ []) (search says depth 30 fits 9000) (omega arith)
+
+up : {x y : ℤ} → y ≡ negℤ x → x ≤ℤ pos 0 → pos 0 ≤ℤ y
+up {x} {y} = lin (x ∷ y ∷ []) (search says depth 30 fits 9000) (omega arith)
+
+-- without a rise, what the cubic has risen by at a half and at a third of the width settles a and b
+at-half : (Z a b : ℤ) → riseAt Z a b (pos 1) (pos 2) ≡ a -ℤ b +ℤ pos 4 *ℤ Z
+at-half Z a b = ring (Z ∷ a ∷ b ∷ []) (search quote depth 30 fits 9000) tt
+
+at-third : (Z a b : ℤ) → riseAt Z a b (pos 1) (pos 3) ≡ pos 4 *ℤ a -ℤ pos 2 *ℤ b +ℤ pos 7 *ℤ Z
+at-third Z a b = ring (Z ∷ a ∷ b ∷ []) (search quote depth 30 fits 9000) tt
+
+settled : (z a b x y : ℤ) → z ≡ pos 0 → x ≡ a -ℤ b +ℤ pos 4 *ℤ (unit *ℤ z) → y ≡ pos 4 *ℤ a -ℤ pos 2 *ℤ b +ℤ pos 7 *ℤ (unit *ℤ z) → x ≡ pos 0 → y ≡ pos 0 → (a ≡ pos 0) × (b ≡ pos 0)
+settled z a b x y = lin (z ∷ a ∷ b ∷ x ∷ y ∷ []) (search says depth 30 fits 9000) (omega arith)
+
+module _ {h z m n : ℤ} where
+  pub no-slope-against : Monotone unit h z m n → NoSlopeAgainstItsRise h z m n
+  no-slope-against o =
+      record {
+        rising = λ p. o .rising p .at;
+        falling = λ p k q q₁ k₁. down (turned (unit *ℤ z) (m *ℤ h) (n *ℤ h) (pos k) (pos q)) (o .falling p .at k q q₁ k₁);
+        level = λ e k q q₁ k₁. sym (the-cubic-is-in-order o (pos 0) (pos k) (pos q) (≤ℤ-refl (pos 0)) (0≤-number k) (pos-≤ k₁) (pos-≤ q₁) .level e) ∙ at-left (unit *ℤ z) (m *ℤ h) (n *ℤ h) (pos q);
+      }
+
+  pub monotone-without : NoSlopeAgainstItsRise h z m n → Monotone unit h z m n
+  monotone-without o =
+      record {
+        rising = λ p. record { at = o .rising p };
+        falling = λ p. record { at = λ k q q₁ k₁. up (turned (unit *ℤ z) (m *ℤ h) (n *ℤ h) (pos k) (pos q)) (o .falling p k q q₁ k₁) };
+        level = λ e.
+            settled z (m *ℤ h) (n *ℤ h) _ _ e (at-half (unit *ℤ z) (m *ℤ h) (n *ℤ h)) (at-third (unit *ℤ z) (m *ℤ h) (n *ℤ h)) (o .level e 1 2 (lit≤ tt) (lit≤ tt))
+            (o .level e 1 3 (lit≤ tt) (lit≤ tt));
+      }

@@ -1,0 +1,242 @@
+-- The three demands that decide everything, sentence by sentence, and beneath each sentence the theorems that say it. What a theorem takes of a call is what its
+-- function promises (the `ensures` line), so that it holds of whatever the function answers.
+use mathlib.Core.Path.{_≡_, refl, sym, _∙_, ap, subst}
+use mathlib.Core.Bool.{Bool, true, false, not}
+use mathlib.Core.Logic.{_↔_, _⊎_, inl, inr, ⊎-elim}
+use mathlib.Core.List.{List, [], _∷_}
+use Prim.Native.Nat.{ℕ, zero, suc, _+_, _-_, _<_, _≤_}
+use native.Mathlib.Omega.{arith}
+use lib.Dec.{T, leb, leb→le, nleb→lt}
+use lib.IntN.{ℤ, pos, negsuc, _+ℤ_, _-ℤ_}
+use lib.Signed.{_<ℤ_, ltZ-yes}
+use lib.ListN.{length}
+use Rattle.integers.specs.Promise.{Floor}
+use Rattle.integers.specs.Linear.{lin, says}
+use Rattle.integers.specs.Order.{positives}
+use Rattle.integers.specs.Division.{floor-of}
+use Rattle.cubic.specs.Piece.{unit}
+use Rattle.cubic.specs.Slopes.{endSlope, innerSlope}
+use Rattle.cubic.specs.Value.{numerator, denominator}
+use Rattle.rules.specs.Limits.{WidthWithin, RiseWithin}
+use Rattle.rules.specs.Known.{0<-width}
+use Rattle.rules.specs.Refusals.{Given, done, passed}
+use Rattle.rules.specs.Order.{one-given, stopped, went-on, kept, answer-right}
+use Rattle.table.specs.declared.changed.Change.{Change}
+use Rattle.table.specs.Table.{Table, table, entry, step, Holds, not-monotone, buildOrder, checkOrder}
+use Rattle.table.specs.Accepted.{accepted-points, accepted-table}
+use Rattle.table.specs.Changed.{changedBy}
+use Rattle.piece.specs.Promise.{Word, rising, falling, flat, answer, leaning, Judged, width-refused, rise-refused, monotone, bent}
+use Rattle.slopes.specs.Slopes.{endAt, innerAt, builtSlope, Built}
+use Rattle.slopes.specs.Cases.{first-slope, inner-slope, last-slope}
+use Rattle.slopes.specs.Put.{tab-length, tab-entry}
+use Rattle.slopes.specs.Determined.{one-build}
+use Rattle.slopes.specs.EveryPiece.{every-piece-of-a-built-table-is-monotone, a-built-table-passes-the-table-check}
+use Rattle.slopes.specs.Figures.{ends-of-32-bits-are-refused}
+use Rattle.position.specs.Position.{Belongs}
+use Rattle.position.specs.Pieces.{within-list}
+use Rattle.position.specs.Refused.{as-checked, accepted-at}
+use Rattle.curve.specs.Curve.{Evaluated}
+use Rattle.drive.specs.Refused.{as-evaluated}
+use Rattle.change.specs.Change.{Changed}
+use Rattle.change.specs.Chain.{Chain, the-slopes-equal-those-built-afresh}
+use Rattle.change.specs.Beside.{Near}
+use Rattle.change.specs.WhatIsWritten.{the-point-holds-the-new-knot, the-point-holds-the-new-value, the-slopes-at-it-and-beside-it-are-renewed, no-other-knot-changes, no-other-value-changes, no-other-slope-changes}
+use Rattle.change.specs.RefusedAsABuild.{made-only-then, made-then}
+use Rattle.demands.specs.First.{First, NoneHolds, refused-exactly, done-exactly}
+use Rattle.demands.specs.Calls.{Call, build, check, locate, evaluate, float-answer, orderOf, CauseOf, Answers, by-the-order}
+use Rattle.demands.specs.Cubic.{NoSlopeAgainstItsRise, no-slope-against, monotone-without}
+
+-- ======== 1. "Any points, slopes, positions and edits may come in, from any list of any length. Nothing traps, nothing is computed from a wrapped number, nobody is
+-- asked to have tested first."
+--
+-- This is shown of the code itself: of every function the prover shows, before it is compiled, that it ends, that no step traps and that no sum, difference or
+-- product wraps, and no function of `Call` has a `requires`. The promises speak of lists of any length, and of a width or a rise as the difference of two whole
+-- numbers. So two counts at opposite ends of 32 bits, whose difference would wrap to 1, are refused, whatever the values, the slopes and the position.
+
+pub data Asks (t : Table) : Call → Type 0 where
+  a-build : Asks t (build t)
+  a-check : Asks t (check t)
+  a-place : (x : ℤ) → Asks t (locate t x)
+  a-value : (x : ℤ) → Asks t (evaluate t x)
+  a-float-answer : (x : ℤ) → Asks t (float-answer t x)
+
+module _ (v w m n : ℤ) where
+  abbrev opposite-ends : Table
+  opposite-ends = table (pos 2147483647 ∷ negsuc 2147483647 ∷ []) (v ∷ w ∷ []) (m ∷ n ∷ [])
+
+  pub counts-at-opposite-ends-are-refused : {call : Call} {number place : ℕ} → Asks opposite-ends call → Answers call number place → (number ≡ 3) × (place ≡ 0)
+  counts-at-opposite-ends-are-refused asks a = one-given (by-the-order a) (given asks)
+    where
+      built : Given (Holds opposite-ends) buildOrder 3 0
+      built = ends-of-32-bits-are-refused v w m n
+
+      checked : Given (Holds opposite-ends) checkOrder 3 0
+      checked = stopped (5 ∷ []) (λ e. omega arith) built
+
+      evaluated : (x : ℤ) → Given (CauseOf (evaluate opposite-ends x)) (orderOf (evaluate opposite-ends x)) 3 0
+      evaluated x = stopped (6 ∷ []) (λ e. omega arith) (as-checked checked)
+
+      given : {call : Call} → Asks opposite-ends call → Given (CauseOf call) (orderOf call) 3 0
+      given a-build = built
+      given a-check = checked
+      given (a-place x) = evaluated x
+      given (a-value x) = evaluated x
+      given (a-float-answer x) = stopped (8 ∷ []) (λ e. omega arith) (as-evaluated (evaluated x))
+
+-- ======== "Each refusal has its number and place by a fixed order, is given exactly when its cause holds and no earlier one does, and changes no lent list."
+--
+-- The orders stand in `orderOf`. `First` says that a cause holds at the place, at none before it, and that none of the causes before it in the order holds.
+
+module _ {call : Call} {number place : ℕ} (a : Answers call number place) where
+  pub a-refusal-is-given-exactly-when-it-is-the-first : (c q : ℕ) → 0 < c → ((number ≡ c) × (place ≡ q)) ↔ First (CauseOf call) (orderOf call) c q
+  a-refusal-is-given-exactly-when-it-is-the-first = refused-exactly (by-the-order a)
+
+  pub nothing-is-refused-exactly-when-no-cause-holds : (number ≡ 0) ↔ NoneHolds (CauseOf call) (orderOf call)
+  nothing-is-refused-exactly-when-no-cause-holds = done-exactly (by-the-order a)
+
+-- `build` may write to the slopes, and `point` to the three lists; every other list is lent to be read only.
+pub a-refused-build-changes-no-list : {knots values before after : List ℤ} {number place : ℕ} → Built knots values before after number place → (number ≡ 0 → ⊥) → after ≡ before
+a-refused-build-changes-no-list b f = b .slopes ∙ sym (kept _ _ f)
+
+pub a-refused-change-changes-no-list : {c : Change} {before after : Table} {number place : ℕ} → Changed c before after number place → (number ≡ 0 → ⊥) → after ≡ before
+a-refused-change-changes-no-list c f =
+    let knots = c .knots ∙ sym (kept _ _ f) in
+    let values = c .values ∙ sym (kept _ _ f) in
+    let slopes = c .slopes ∙ sym (kept _ _ f) in
+    λ i. record { knots = knots i; values = values i; slopes = slopes i }
+
+-- ======== 2. "A piece within the limits gets a yes exactly when its cubic has no slope against its rise at any fraction of its width, or, without a rise, is level
+-- throughout, whoever proposed the slopes."
+
+-- a yes is any verdict that is not `bends`
+pub data Yes : Word → Type 0 where
+  it-rises : Yes rising
+  it-falls : Yes falling
+  it-is-flat : Yes flat
+
+-- a piece alone
+pub a-piece-gets-a-yes-exactly-then : {h z m n : ℤ} {number place : ℕ} {word : Word} → WidthWithin h → RiseWithin z → Judged h z m n (answer number place word) → Yes word ↔ NoSlopeAgainstItsRise h z m n
+a-piece-gets-a-yes-exactly-then w r (width-refused f) = absurd (f w)
+a-piece-gets-a-yes-exactly-then w r (rise-refused _ f) = absurd (f r)
+a-piece-gets-a-yes-exactly-then {z = z} w r (monotone _ _ o) = (λ _. no-slope-against o, λ _. yes z)
+  where
+    yes : (z : ℤ) → Yes (leaning z)
+    yes (pos zero) = it-is-flat
+    yes (pos (suc n)) = it-rises
+    yes (negsuc n) = it-falls
+a-piece-gets-a-yes-exactly-then w r (bent _ _ f) = (λ y. elim y [ ], λ s. absurd (f (monotone-without s)))
+
+-- a table whose points are within the limits, with any slopes: it passes the check exactly when every piece does
+abbrev pub NoneAgainst : Table → Type 0
+NoneAgainst t =
+    (i : ℕ) → i + 1 < length (t .knots) → NoSlopeAgainstItsRise (step (t .knots) i) (step (t .values) i) (entry (t .slopes) i) (entry (t .slopes) (i + 1))
+
+pub a-table-gets-a-yes-exactly-then : {t : Table} {number place q : ℕ} → Given (Holds t) buildOrder 0 q → Given (Holds t) checkOrder number place → (number ≡ 0) ↔ NoneAgainst t
+a-table-gets-a-yes-exactly-then {t} limits g = (
+  λ e i l. no-slope-against (accepted-table e g .pieces i l),
+  λ s. one-given g (went-on refl limits (passed (no-bend s) done)) .0,
+)
+  where
+    no-bend : NoneAgainst t → (i : ℕ) → Holds t 5 i → ⊥
+    no-bend s i (not-monotone l f) = f (monotone-without (s i l))
+
+-- ======== "Slopes we build are Fritsch and Butland's mean at inner points and document 01's rule at the ends, and get a yes always."
+
+-- `endSlope` is the rule at the ends, and `innerSlope` the mean, or 0 where the two pieces do not rise, or fall, together.
+pub record RightSlopes (knots values slopes : List ℤ) : Type 0 where
+  pub as-many : length slopes ≡ length knots
+  pub first : entry slopes 0 ≡ endSlope unit (step knots 0) (step values 0)
+  pub inner : (i : ℕ) → i + 2 < length knots → entry slopes (i + 1) ≡ innerSlope unit (step knots i) (step values i) (step knots (i + 1)) (step values (i + 1))
+  pub last : (i : ℕ) → i + 2 ≡ length knots → entry slopes (i + 1) ≡ endSlope unit (step knots i) (step values i)
+
+module _ {knots values before after : List ℤ} {place : ℕ} (b : Built knots values before after 0 place) where
+  slope-at : (i : ℕ) → i < length knots → entry after i ≡ builtSlope knots values i
+  slope-at i l = ap (λ (list : List ℤ). entry list i) (b .slopes) ∙ tab-entry (length knots) (builtSlope knots values) i l
+
+  pub slopes-we-build-are-the-right-ones : RightSlopes knots values after
+  slopes-we-build-are-the-right-ones =
+      record {
+        as-many = ap length (b .slopes) ∙ tab-length (length knots) (builtSlope knots values);
+        first = slope-at 0 (omega (arith, accepted-points refl (b .refusal) .count .low)) ∙ sym (first-slope knots values 0 refl);
+        inner = λ i l.
+            slope-at (i + 1) (omega arith) ∙ sym (inner-slope knots values (i + 1) (λ e. omega arith) (omega arith)) ∙ ap (λ (j : ℕ). innerAt knots values j (i + 1)) (back i);
+        last = λ i e.
+            slope-at (i + 1) (omega arith) ∙ sym (last-slope knots values (i + 1) (λ e. omega arith) (omega arith)) ∙ ap (endAt knots values) (back i);
+      }
+    where
+      back : (i : ℕ) → i + 1 - 1 ≡ i
+      back i = omega arith
+
+  pub slopes-we-build-get-a-yes-always : NoneAgainst (table knots values after)
+  slopes-we-build-get-a-yes-always i l = no-slope-against (every-piece-of-a-built-table-is-monotone b i l)
+
+  pub and-pass-the-check : {number q : ℕ} → Given (Holds (table knots values after)) checkOrder number q → (number ≡ 0) × (q ≡ 0)
+  and-pass-the-check g = one-given g (a-built-table-passes-the-table-check b)
+
+-- ======== "The position answered is the exact cubic, rounded down."
+
+-- v is the left value and a whole number q more, where q·d ≤ n < (q + 1)·d with n/d the exact cubic at the position, on the piece that the position belongs to
+pub record ExactRoundedDown (t : Table) (x v : ℤ) : Type 0 where
+  pub piece : ℕ
+  pub belongs : Belongs (t .knots) x piece
+  pub rounded-down : Floor (numerator unit (step (t .knots) piece) (step (t .values) piece) (entry (t .slopes) piece) (entry (t .slopes) (piece + 1)) (x -ℤ entry (t .knots) piece)) (denominator unit (step (t .knots) piece)) (v -ℤ entry (t .values) piece)
+
+pub the-position-answered-is-the-exact-cubic-rounded-down : {t : Table} {x v : ℤ} {place : ℕ} → Evaluated t x 0 place v → ExactRoundedDown t x v
+the-position-answered-is-the-exact-cubic-rounded-down {t} {x} {v} e =
+    let at = answer-right refl (e .value) in
+    record {
+      piece = at .piece;
+      belongs = at .belongs;
+      rounded-down = subst (Floor _ _) (sym (more v (entry (t .values) (at .piece)) _ (at .is))) (floor-of _ (below (0<-width (accepted-at refl (e .refusal) .limits .widths (at .piece) (within-list (at .belongs))))));
+    }
+  where
+    more : (v l r : ℤ) → v ≡ l +ℤ r → v -ℤ l ≡ r
+    more v l r = lin (v ∷ l ∷ r ∷ []) (search says depth 30 fits 9000) (omega arith)
+
+    below : {h : ℤ} → pos 0 <ℤ h → pos 0 <ℤ denominator unit h
+    below {h} h₀ = let u : pos 0 <ℤ unit = ltZ-yes tt in search positives
+
+-- ======== 3. "Change one point of a table whose slopes we built, any number of times, refused changes among them: the slopes then equal those built afresh."
+
+-- A build leaves slopes; any list of changes is made; a build of the points that then stand there, over any list of as many slopes, is not refused, and leaves just the
+-- slopes that stand there.
+pub after-any-changes-the-slopes-equal-those-built-afresh : {knots values before slopes : List ℤ} {place : ℕ} {changes : List Change} {t : Table} {again afresh : List ℤ} {number q : ℕ}
+    → Built knots values before slopes 0 place → Chain changes (table knots values slopes) t → length again ≡ length (t .knots) → Built (t .knots) (t .values) again afresh number q
+    → (number ≡ 0) × (t .slopes ≡ afresh)
+after-any-changes-the-slopes-equal-those-built-afresh built chain e b =
+    let same = one-build b (the-slopes-equal-those-built-afresh built chain e) in (same .0, sym (same .2))
+
+-- ======== "Each accepted change puts the new knot and value there, renews the slopes at it and beside it, and touches nothing else."
+
+-- `Near k i` says that i is k or one of its neighbours
+pub record JustThis (c : Change) (before after : Table) : Type 0 where
+  pub knot : entry (after .knots) (c .point) ≡ c .knot
+  pub value : entry (after .values) (c .point) ≡ c .value
+  pub slopes-near : (i : ℕ) → i < length (before .knots) → Near (c .point) i → entry (after .slopes) i ≡ builtSlope (after .knots) (after .values) i
+  pub other-knots : (i : ℕ) → (i ≡ c .point → ⊥) → entry (after .knots) i ≡ entry (before .knots) i
+  pub other-values : (i : ℕ) → (i ≡ c .point → ⊥) → entry (after .values) i ≡ entry (before .values) i
+  pub other-slopes : (i : ℕ) → i < length (before .knots) → (Near (c .point) i → ⊥) → entry (after .slopes) i ≡ entry (before .slopes) i
+
+pub an-accepted-change-does-just-this : {c : Change} {before after : Table} {place : ℕ} → Changed c before after 0 place → JustThis c before after
+an-accepted-change-does-just-this change =
+    record {
+      knot = the-point-holds-the-new-knot change;
+      value = the-point-holds-the-new-value change;
+      slopes-near = the-slopes-at-it-and-beside-it-are-renewed change;
+      other-knots = no-other-knot-changes change;
+      other-values = no-other-value-changes change;
+      other-slopes = no-other-slope-changes change;
+    }
+
+-- ======== "It is refused exactly when a fresh build of the changed points would be, or the point isn't there."
+
+module _ {c : Change} {before after : Table} {built : List ℤ} {number place m q : ℕ} (change : Changed c before after number place) (build : Built (changedBy c before .knots) (changedBy c before .values) (before .slopes) built m q) where
+  pub a-change-is-refused-exactly-then : (number ≡ 0 → ⊥) ↔ ((m ≡ 0 → ⊥) ⊎ (length (before .knots) ≤ c .point))
+  a-change-is-refused-exactly-then = (
+    λ f. split f (leb (length (before .knots)) (c .point)) refl,
+    λ r e. let made = made-only-then change build e in ⊎-elim (λ g. g (made .1)) (λ l. absurd (omega (arith, l, made .0))) r,
+  )
+    where
+      split : (number ≡ 0 → ⊥) → (b : Bool) → leb (length (before .knots)) (c .point) ≡ b → (m ≡ 0 → ⊥) ⊎ (length (before .knots) ≤ c .point)
+      split f true t = inr (leb→le (length (before .knots)) (c .point) (subst T (sym t) tt))
+      split f false t = inl (λ e. f (made-then change build (nleb→lt (length (before .knots)) (c .point) (subst (λ (b : Bool). T (not b)) (sym t) tt)) e))
