@@ -27,7 +27,7 @@ abbrev pub renewedSlopes : Change → Table → List ℤ
 renewedSlopes c t = renewed (c .point) (builtSlope (changedBy c t .knots) (changedBy c t .values)) (t .slopes)
 
 -- What `point` answers and leaves, where `before` is the table at the call and `after` the table when it returns: the first cause of a refusal in the order 1, 2, 7, 3, 4,
--- its first place, and the three lists as they were; or 0 at place 0, "the point holds them", the new knot and the new value, and its slopes are renewed.
+-- its first place, and the three lists as they were; or 0 at place 0, "the point holds them", the new knot and the new value, and slopes k−1, k and k+1 are renewed.
 pub record Changed (c : Change) (before after : Table) (number place : ℕ) : Type 0 where
   pub refusal : Given (HoldsAfter c before) changeOrder number place
   pub knots : after .knots ≡ afterwards number (before .knots) (changedBy c before .knots)

@@ -25,8 +25,8 @@ pub record Monotone (U h z m n : ℤ) : Type 0 where
   pub falling : z <ℤ pos 0 → NeverAgainst (negℤ (U *ℤ z)) (negℤ (m *ℤ h)) (negℤ (n *ℤ h))
   pub level : z ≡ pos 0 → (m *ℤ h ≡ pos 0) × (n *ℤ h ≡ pos 0)
 
--- "a·t·h² + (3Z − 2a − b)·t²·h + (a + b − 2Z)·t³": the cubic's rise up to the fraction t/h of the width,
--- times U·h³. In a value h is the width itself.
+-- "a·t·h² + (3Z − 2a − b)·t²·h + (a + b − 2Z)·t³": the cubic's rise up to the fraction t/h of the width, times U·h³. For a value h is the width and t the counts
+-- from the left knot.
 abbrev pub riseAt : (Z a b t h : ℤ) → ℤ
 riseAt Z a b t h =
     a *ℤ t *ℤ (h *ℤ h) +ℤ (pos 3 *ℤ Z -ℤ pos 2 *ℤ a -ℤ b) *ℤ (t *ℤ t) *ℤ h +ℤ (a +ℤ b -ℤ pos 2 *ℤ Z) *ℤ (t *ℤ t *ℤ t)

@@ -10,7 +10,7 @@ unfoldable pub spelled : ℕ → ℕ → List ℕ
 spelled zero n = (48 + n) ∷ []
 spelled (suc divisions) n = cond (ltb n 10) ((48 + n) ∷ []) (spelled divisions (n / 10) ++ ((48 + n % 10) ∷ []))
 
--- the digits of n: n divisions are more than it takes
+-- the digits of n: n divisions are enough
 abbrev pub decimalOf : ℕ → List ℕ
 decimalOf n = spelled n n
 

@@ -12,14 +12,14 @@ const MOST: u64 = 9223372036854775807;
 
 const MOST_NEGATIVE: u64 = 9223372036854775808;
 
-// What text says as a number of 64 bits.
+// What text says as a number of 64 bits. `TooLarge`: it is a number beyond them, on either side of 0.
 pub enum Number {
     Is(i64),
     NotDecimal,
     TooLarge,
 }
 
-// What text says as a number of 32 bits.
+// What text says as a number of 32 bits, in the same way.
 pub enum Number32 {
     Is(i32),
     NotDecimal,

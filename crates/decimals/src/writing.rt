@@ -7,7 +7,8 @@ ghost use Rattle.words.specs.Lines.{Appended};
 ghost use Rattle.decimals.specs.Text.{decimalOf, textOf};
 use words::append;
 
-// Puts n, a number that is not negative, behind the first `held` bytes of `into`, as far as there is room.
+// Puts the digits of n, a number that is not negative, behind the first `held` bytes of `into`, and answers how many bytes stand there then. Where there is too little room the
+// last digits are left out, as `append` does.
 pub fn append_natural(into: &mut [u8], held: usize, n: u64) -> usize
     ensures { λ r. ⌜ Appended (now (into .entry)) held (decimalOf n) (now (into .exit)) r ⌝ }
 {
@@ -18,7 +19,7 @@ pub fn append_natural(into: &mut [u8], held: usize, n: u64) -> usize
     append_digit(into, tens, n % 10)
 }
 
-// Puts n behind the first `held` bytes of `into`, as far as there is room.
+// Puts n, with a `-` where it is negative, behind the first `held` bytes of `into`, in the same way.
 pub fn append_whole(into: &mut [u8], held: usize, n: i64) -> usize
     ensures { λ r. ⌜ Appended (now (into .entry)) held (textOf n) (now (into .exit)) r ⌝ }
 {

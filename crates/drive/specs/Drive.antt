@@ -27,7 +27,7 @@ abbrev pub toldOf : Answer → Told
 toldOf (Dwell level) = dwell level
 toldOf (Move m) = move (m .left) (m .numerator) (m .denominator)
 
--- "A refused float answer is a dwell at level 0", which is +0.
+-- "A refused float answer is a dwell at level 0", which is +0: not negative, and 0·2^0. It is the one float that is 0 exactly (`plus-zero` of `Exactly.antt` in `floats`).
 abbrev pub resting : Told
 resting = dwell (fin false 0 (pos 0))
 
@@ -58,8 +58,8 @@ pub data HoldsFor (tab : Table) (x : ℤ) : ℕ → ℕ → Type 0 where
 abbrev pub floatOrder : List ℕ
 floatOrder = 1 ∷ 2 ∷ 3 ∷ 4 ∷ 5 ∷ 6 ∷ 8 ∷ []
 
--- What `float_answer` answers: the first cause of a refusal in this order, its place, and a dwell at level 0; or 0 at place 0, and what the drive is told
--- at the position.
+-- What `float_answer` answers: the first cause of a refusal in this order, its place, and a dwell at level 0, which then says nothing; or 0 at place 0, and
+-- what the drive is told at the position.
 pub record Driving (tab : Table) (x : ℤ) (number place : ℕ) (a : Told) : Type 0 where
   pub refusal : Given (HoldsFor tab x) floatOrder number place
   pub answer : Answered (ToldAt tab x) resting number a

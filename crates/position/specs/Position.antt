@@ -10,7 +10,7 @@ use Rattle.rules.specs.Refusals.{Given, Answered}
 use Rattle.table.specs.Table.{Table, entry, Holds}
 
 -- "A position at an inner knot belongs to the piece that starts there; the last knot belongs to the last piece." One between two knots belongs to the
--- piece between them. Where neither 2 nor 3 is given, each position from the first knot to the last has one piece; elsewhere nothing rests on this.
+-- piece between them. Where neither 2 nor 3 holds, each position from the first knot to the last has one piece; elsewhere nothing rests on this.
 pub data Belongs (ks : List ℤ) (x : ℤ) : ℕ → Type 0 where
   inside : {i : ℕ} → i + 1 < length ks → entry ks i ≤ℤ x → x <ℤ entry ks (i + 1) → Belongs ks x i
   at-last-knot : {i : ℕ} → i + 2 ≡ length ks → x ≡ entry ks (i + 1) → Belongs ks x i

@@ -11,7 +11,7 @@ pub struct Refusal {
 // Slopes are in units of 1/256 of a value per count.
 pub const UNIT: i64 = 256;
 
-// A float answer is exact up to 2^40, for the size of a rise times its width cubed.
+// A float answer is given up to 2^40, for the size of a rise times its width cubed.
 pub const EXACT: i64 = 1099511627776;
 
 // None, done.

@@ -21,7 +21,7 @@ module _ (ks vs : List ℤ) where
   innerAt i j = innerSlope unit (step ks i) (step vs i) (step ks j) (step vs j)
 
   -- "End points take the slope of the end piece [..]. An inner point has pieces h1, z1 on its left and h2, z2 on its right."
-  -- Point 0 takes the end rule of piece 0, a point with another behind it the rule between pieces i − 1 and i, and the last point the end rule of piece i − 1. Nothing
+  -- Point 0 takes the end rule of piece 0, a point with another after it the rule between pieces i − 1 and i, and the last point the end rule of piece i − 1. Nothing
   -- rests on what it says of a point that isn't there.
   abbrev pub builtSlope : ℕ → ℤ
   builtSlope i = cond (eqb i 0) (endAt 0) (cond (ltb (i + 1) (length ks)) (innerAt (i - 1) i) (endAt (i - 1)))

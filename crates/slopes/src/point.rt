@@ -25,7 +25,7 @@ fn slope(knots: &[i32], values: &[i32], i: usize) -> i32
     rule::inner(h1, z1, table::step(knots, i), table::step(values, i))
 }
 
-// Puts the slopes of the points from `from` up to `to` into their places.
+// Puts the slopes of the points from `from` up to and without `to` into their places.
 pub fn renew(knots: &[i32], values: &[i32], slopes: &mut [i32], from: usize, to: usize)
     requires { ⌜ Points (now knots) (now values) ⌝ }
     requires { ⌜ length (now slopes) ≡ length (now knots) ⌝ }

@@ -13,7 +13,7 @@ module _ (c : Change) (t : Table) where
   changedBy = table (set (t .knots) (c .point) (c .knot)) (set (t .values) (c .point) (c .value)) (t .slopes)
 
   -- "7 | no point with this number | 0", beside the causes that these points have: "3 and 4 are asked of the points as they would be after the change", and 1 and 2 may
-  -- be, as no length changes. 5 is not in the order. Where 7 is asked, 1 has been, so that the knots are as many as the points.
+  -- be, as no length changes (`as-counted` of `AfterChange.antt`). 5 is not in the order. Where 7 is asked, 1 has been, so that the knots are as many as the points.
   pub data HoldsAfter : ℕ → ℕ → Type 0 where
     of-points : {number place : ℕ} → Holds changedBy number place → HoldsAfter number place
     no-such-point : (c .point < points t → ⊥) → HoldsAfter 7 0

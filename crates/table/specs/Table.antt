@@ -27,7 +27,7 @@ abbrev pub step : List ℤ → ℕ → ℤ
 step list i = entry list (i + 1) -ℤ entry list i
 
 module _ (t : Table) where
-  -- how many points there are, where the lists are equally long; else the number of knots, which no answer rests on
+  -- how many points there are, where the lists are equally long; else the number of knots, which 1 alone looks at
   abbrev pub points : ℕ
   points = length (t .knots)
 

@@ -33,7 +33,7 @@ wordFrom line start = cond (ltb start (length line)) (At start (runEnd (alike fa
 abbrev pub nextWord : List ℕ → ℕ → Word
 nextWord line from = wordFrom line (runEnd (alike true) line from)
 
--- a word that is not empty, put before others
+-- a word put before others, where it is not empty
 abbrev pub close : List ℕ → List (List ℕ) → List (List ℕ)
 close [] ws = ws
 close (b ∷ bs) ws = (b ∷ bs) ∷ ws

@@ -32,7 +32,7 @@ fn run(line: &[u8], from: usize, blank: bool) -> usize
     i
 }
 
-// The first word that starts at `from` or after it. A `from` inside a word finds the rest of that word.
+// The first word of what the line has from `from` on. A `from` inside a word finds the rest of that word.
 pub fn next_word(line: &[u8], from: usize) -> Word
     ensures { λ r. ⌜ r ≡ nextWord (now (line .entry)) from ⌝ }
 {
@@ -47,7 +47,7 @@ pub fn next_word(line: &[u8], from: usize) -> Word
     }
 }
 
-// How many words stand from `from` on.
+// How many words the line has from `from` on. A `from` inside a word counts the rest of that word.
 pub fn count(line: &[u8], from: usize) -> usize
     ensures { λ r. ⌜ r ≡ length (wordsOf (drop from (now (line .entry)))) ⌝ }
 {
@@ -60,7 +60,7 @@ pub fn count(line: &[u8], from: usize) -> usize
     n
 }
 
-// The bytes from `start` up to `end`, and no further than the line goes.
+// The bytes from `start` up to and without `end`, and no further than the line goes.
 pub fn part(line: &[u8], start: usize, end: usize) -> &[u8]
     ensures { λ r. ⌜ now r ≡ partOf (now (line .entry)) start end ⌝ }
 {
