@@ -1,14 +1,15 @@
 -- "Figures to hold against it" of the exact rules, as far as they speak of changes: the promise of `point` gives them.
 use mathlib.Core.Path.{refl}
 use mathlib.Core.List.{[], _∷_}
-use Prim.Native.Nat.{ℕ, zero, suc, _+_, _<_}
+use Prim.Native.Nat.{ℕ, zero, suc, _<_}
 use native.Mathlib.Omega.{arith}
 use lib.IntN.{pos, negsuc}
 use lib.Signed.{leZ-yes}
-use Rattle.rules.specs.Limits.{CountWithin, WidthWithin, RiseWithin}
+use Rattle.rules.specs.Limits.{CountWithin}
 use Rattle.rules.specs.Refusals.{refused, passed}
-use Rattle.table.specs.Table.{Table, table, step, Holds, width-outside}
+use Rattle.table.specs.Table.{Table, table, Holds, width-outside}
 use Rattle.table.specs.Accepted.{same-length-passes, count-passes, points-accepted}
+use Rattle.table.specs.Tested.{points-by-test}
 use Rattle.table.specs.Changed.{changedBy}
 use Rattle.table.specs.AfterChange.{as-changed}
 use Rattle.change.specs.Change.{Changed}
@@ -27,23 +28,11 @@ lowered = table (pos 0 ∷ pos 1 ∷ pos 2 ∷ pos 3 ∷ []) (negsuc 1 ∷ pos 1
 pub point-0-lowered : Changed (record { point = 0; knot = pos 0; value = negsuc 1 }) four lowered 0 0
 point-0-lowered =
     record {
-      refusal = as-changed (record { point = 0; knot = pos 0; value = negsuc 1 }) four (omega arith) (points-accepted (record { lengths = refl; count = count; widths = widths; rises = rises }) refl);
+      refusal = as-changed (record { point = 0; knot = pos 0; value = negsuc 1 }) four (omega arith) (points-accepted (points-by-test (lowered .knots) (lowered .values) refl count tt) refl);
       knots = refl;
       values = refl;
       slopes = refl;
     }
-  where
-    widths : (i : ℕ) → i + 1 < 4 → WidthWithin (step (lowered .knots) i)
-    widths zero l = record { low = leZ-yes tt; high = leZ-yes tt }
-    widths (suc zero) l = record { low = leZ-yes tt; high = leZ-yes tt }
-    widths (suc (suc zero)) l = record { low = leZ-yes tt; high = leZ-yes tt }
-    widths (suc (suc (suc i))) l = absurd (omega (arith, l))
-
-    rises : (i : ℕ) → i + 1 < 4 → RiseWithin (step (lowered .values) i)
-    rises zero l = record { low = leZ-yes tt; high = leZ-yes tt }
-    rises (suc zero) l = record { low = leZ-yes tt; high = leZ-yes tt }
-    rises (suc (suc zero)) l = record { low = leZ-yes tt; high = leZ-yes tt }
-    rises (suc (suc (suc i))) l = absurd (omega (arith, l))
 
 -- "Point 1 changed to (2,1) instead: refused by 3 at place 1."
 pub point-1-moved-onto-point-2 : Changed (record { point = 1; knot = pos 2; value = pos 1 }) four four 3 1

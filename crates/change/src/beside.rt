@@ -28,7 +28,7 @@ fn end(k: usize, n: usize) -> usize
 }
 
 // Puts the slopes of these points into their places, as a build does.
-pub fn renew(knots: &[i32], values: &[i32], slopes: &mut [i32], k: usize)
+pub(crate) fn renew(knots: &[i32], values: &[i32], slopes: &mut [i32], k: usize)
     requires { ⌜ Points (now knots) (now values) ⌝ }
     requires { ⌜ length (now slopes) ≡ length (now knots) ⌝ }
     requires { ⌜ k < length (now knots) ⌝ }

@@ -1,12 +1,10 @@
 -- Identities of the slope, and what each says of its sign: the Bernstein form, the box and the ellipse.
 use mathlib.Core.Path.{_≡_}
 use mathlib.Core.List.{[], _∷_}
-use native.Mathlib.Omega.{arith}
 use lib.IntN.{ℤ, pos, negℤ, _+ℤ_, _-ℤ_, _*ℤ_}
 use lib.Signed.{_≤ℤ_, _<ℤ_, ltZ-yes}
 use Rattle.integers.specs.Ring.{ring, quote}
-use Rattle.integers.specs.Linear.{lin, says}
-use Rattle.integers.specs.Order.{signs, 0≤-as, 0≤-gap, 0≤-cancel, 0<-product, ≤ℤ-trans}
+use Rattle.integers.specs.Order.{signs, 0≤-as, 0≤-cancel, 0<-product}
 use Rattle.cubic.specs.Piece.{slopeAt}
 
 -- the slope in Bernstein's form
@@ -70,14 +68,3 @@ module _ (Z a b k q : ℤ) (k₀ : pos 0 ≤ℤ k) (k₁ : k ≤ℤ q) (a₀ : p
 
   pub in-box : pos 0 <ℤ Z → a ≤ℤ (pos 3 *ℤ Z) → b ≤ℤ (pos 3 *ℤ Z) → pos 0 ≤ℤ slopeAt Z a b k q
   in-box z₀ a₁ b₁ = 0≤-cancel (0<-product {x = pos 3} (ltZ-yes tt) z₀) (0≤-as (boxed Z a b k q) (search signs depth 9 fits 9000))
-
-  -- where the sum is not below 2Z, each side of the line 2a + b = 3Z or a + 2b = 3Z settles it term by term
-  pub terms-up : (pos 2 *ℤ Z) ≤ℤ (a +ℤ b) → (pos 2 *ℤ a +ℤ b) ≤ℤ (pos 3 *ℤ Z) → pos 0 ≤ℤ slopeAt Z a b k q
-  terms-up s l =
-      let c = 0≤-gap s in
-      let d = middle Z a b l in
-      let e = ≤ℤ-trans k₀ k₁ in
-      search signs depth 9 fits 9000
-    where
-      middle : (Z a b : ℤ) → (pos 2 *ℤ a +ℤ b) ≤ℤ (pos 3 *ℤ Z) → pos 0 ≤ℤ (pos 3 *ℤ Z -ℤ pos 2 *ℤ a -ℤ b)
-      middle Z a b = lin (Z ∷ a ∷ b ∷ []) (search says depth 30 fits 9000) (omega arith)

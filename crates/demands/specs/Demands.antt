@@ -9,7 +9,7 @@ use native.Mathlib.Omega.{arith}
 use lib.Dec.{T, leb, leb→le, nleb→lt}
 use lib.IntN.{ℤ, pos, negsuc, _+ℤ_, _-ℤ_}
 use lib.Signed.{_<ℤ_, ltZ-yes}
-use lib.ListN.{length}
+use lib.ListN.{length, length-set}
 use Rattle.integers.specs.Promise.{Floor}
 use Rattle.integers.specs.Linear.{lin, says}
 use Rattle.integers.specs.Order.{positives}
@@ -216,9 +216,10 @@ pub record JustThis (c : Change) (before after : Table) : Type 0 where
   pub other-knots : (i : ℕ) → (i ≡ c .point → ⊥) → entry (after .knots) i ≡ entry (before .knots) i
   pub other-values : (i : ℕ) → (i ≡ c .point → ⊥) → entry (after .values) i ≡ entry (before .values) i
   pub other-slopes : (i : ℕ) → i < length (before .knots) → (Near (c .point) i → ⊥) → entry (after .slopes) i ≡ entry (before .slopes) i
+  pub no-length : (length (after .knots) ≡ length (before .knots)) × (length (after .values) ≡ length (before .values)) × (length (after .slopes) ≡ length (before .slopes))
 
 pub an-accepted-change-does-just-this : {c : Change} {before after : Table} {place : ℕ} → Changed c before after 0 place → JustThis c before after
-an-accepted-change-does-just-this change =
+an-accepted-change-does-just-this {c} {before} change =
     record {
       knot = the-point-holds-the-new-knot change;
       value = the-point-holds-the-new-value change;
@@ -226,6 +227,11 @@ an-accepted-change-does-just-this change =
       other-knots = no-other-knot-changes change;
       other-values = no-other-value-changes change;
       other-slopes = no-other-slope-changes change;
+      no-length = (
+        ap length (change .knots) ∙ length-set (before .knots) (c .point) (c .knot),
+        ap length (change .values) ∙ length-set (before .values) (c .point) (c .value),
+        ap length (change .slopes) ∙ tab-length (length (before .slopes)) _,
+      );
     }
 
 -- ======== "It is refused exactly when a fresh build of the changed points would be, or the point isn't there."

@@ -1,6 +1,6 @@
 -- A cast in code, of an expression that `Sizes` of the integer layer reads: it is defined, and exact, where the expression's size is seen to stay within 2^24 at
 -- 32 bits and 2^53 at 64.
-use mathlib.Core.Path.{sym, subst}
+use mathlib.Core.Path.{subst}
 use mathlib.Core.Bool.{_&&_}
 use mathlib.Core.List.{List}
 use Prim.Native.Nat.{_^_}

@@ -1,5 +1,5 @@
 -- `table::search::number` meets its contract: the number that belongs to the cause told apart.
-use mathlib.Core.Path.{_≡_, sym, ap}
+use mathlib.Core.Path.{sym, ap}
 use borrow.Author.Needs.{needs}
 use Rattle.table.specs.Search.{numberOf}
 use Rattle.table.proofs.search.number.Statement.{statement}
