@@ -55,11 +55,6 @@ one-less c =
     less-floor (s .args .n) (positive (c .before))
     (plain s (λ (r : ℤ). r <ℤ pos 0) (passed (remainder s) (c .if2 .taken) (search tests depth 30 fits 9000) tt))
 
-sub-result : tie.Need-sub-result
-sub-result c =
-    let s = c .before .before in
-    subst (λ (q : ℤ). SFits w64 q) (sym (ap (λ (q : ℤ). q -ℤ pos 1) (quotient (c .before)) ∙ one-less c)) (floor-fits w64 (s .args .d) (s .fits .n))
-
 returns-2 : tie.Need-returns-2
 returns-2 c =
     let s = c .before .before in
@@ -68,6 +63,11 @@ returns-2 c =
           ap (λ (q : ℤ). toZ w64 (ofZ w64 q)) (ap (λ (q : ℤ). q -ℤ pos 1) (quotient (c .before)) ∙ one-less c)
           ∙ toZ-ofZ (floor-fits w64 (s .args .d) (s .fits .n));
     }
+
+sub-result : tie.Need-sub-result
+sub-result c =
+    let s = c .before .before in
+    subst (λ (q : ℤ). SFits w64 q) (sym (ap (λ (q : ℤ). q -ℤ pos 1) (quotient (c .before)) ∙ one-less c)) (floor-fits w64 (s .args .d) (s .fits .n))
 
 returns-3 : tie.Need-returns-3
 returns-3 c =

@@ -10,7 +10,7 @@ between-requires : tie.Need-between-requires
 between-requires c κs = search needs
 
 returns : tie.Need-returns
-returns c = asked RiseWithin (toZ-ofZ (c .before .fits .z)) (c .between .ensures)
+returns c = asked RiseWithin {b = c .between .result} (toZ-ofZ (c .before .fits .z)) (c .between .ensures)
 
 pub rise-within-spec : {M : Type 1} → statement M
 rise-within-spec = tie.close (tie.spec between-requires returns)

@@ -10,7 +10,7 @@ between-requires : tie.Need-between-requires
 between-requires c κs = search needs
 
 returns : tie.Need-returns
-returns c = asked WidthWithin (toZ-ofZ (c .before .fits .h)) (c .between .ensures)
+returns c = asked WidthWithin {b = c .between .result} (toZ-ofZ (c .before .fits .h)) (c .between .ensures)
 
 pub width-within-spec : {M : Type 1} → statement M
 width-within-spec = tie.close (tie.spec between-requires returns)
