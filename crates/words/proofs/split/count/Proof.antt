@@ -12,7 +12,7 @@ use Rattle.words.proofs.split.count.Statement.{statement}
 use Rattle.words.proofs.split.count.Tie as tie
 
 abbrev Inv-loop : tie.InvT-loop
-Inv-loop line from at₀ n₀ at n = (n ≤ at) × (n + length (wordsOf (drop at line)) ≡ length (wordsOf (drop from line)))
+Inv-loop line from at₀ n₀ at n = (n + length (wordsOf (drop at line)) ≡ length (wordsOf (drop from line))) × (n ≤ at)
 
 abbrev μ-loop : tie.MeasureT-loop
 μ-loop line from at₀ n₀ at n = length line - at
@@ -24,7 +24,7 @@ word : (c : tie.After-known-told Inv-loop μ-loop)
 word c = a-word _ _ _ _ (sym (c .before .before .before .next-word .ensures) ∙ c .before .end .given .1)
 
 loop-holds : tie.Need-loop-holds Inv-loop μ-loop
-loop-holds c = search needs
+loop-holds c = (omega arith, omega arith)
 
 next-word-requires : tie.Need-next-word-requires Inv-loop μ-loop
 next-word-requires c κs = search needs
@@ -41,7 +41,7 @@ loop-less c = let f = word c in omega arith
 loop-again : tie.Need-loop-again Inv-loop μ-loop
 loop-again c =
     let f = word c in
-    (omega arith, omega (arith, ap length (f .first)))
+    (omega (arith, ap length (f .first)), omega arith)
 
 enum-told : tie.Need-enum-told Inv-loop μ-loop
 enum-told c = search needs
