@@ -24,10 +24,10 @@ said-most : (c : tie.Start) {t : Bool} → ltZ (pos 2147483647) (toZ w64 (ofZ w6
 said-most c {t} = subst (λ (z : ℤ). ltZ (pos 2147483647) z ≡ t) (itself c)
 
 above-least : (c : tie.Else1) → leZ (negsuc 2147483647) (c .before .args .n) ≡ true
-above-least c = not-below (c .before .args .n) (negsuc 2147483647) (said-least (c .before) (c .if1 .left))
+above-least c = not-below (c .before .args .n) (negsuc 2147483647) (said-least (c .before) {t = false} (c .if1 .left))
 
 below-most : (c : tie.Else2) → leZ (c .before .before .args .n) (pos 2147483647) ≡ true
-below-most c = not-below (pos 2147483647) (c .before .before .args .n) (said-most (c .before .before) (c .if2 .left))
+below-most c = not-below (pos 2147483647) (c .before .before .args .n) (said-most (c .before .before) {t = false} (c .if2 .left))
 
 chosen : (z : ℤ) (s t : Bool) → leZ (negsuc 2147483647) z ≡ s → leZ z (pos 2147483647) ≡ t → cond (s && t) (Is z) TooLarge ≡ fit32 z
 chosen z s t p q = ap (λ (b : Bool). cond (b && t) (Is z) TooLarge) (sym p) ∙ ap (λ (b : Bool). cond (leZ (negsuc 2147483647) z && b) (Is z) TooLarge) (sym q)

@@ -45,7 +45,8 @@ returns c =
     let minus = subst (λ (z : ℤ). ltZ z (pos 0) ≡ true) (itself start) (c .before .before .before .before .before .before .before .before .before .before .if1 .taken) in
     subst (λ (l : List ℕ). Appended (now (start .args .into)) (start .args .held) l (r .last .0) (r .result))
     (ap (λ (k : ℕ). 45 ∷ decimalOf k) size ∙ negative-text n minus)
-    (both (c .before .before .before .before .before .before .before .append .ensures) (r .ensures))
+    (both {c = r .last .0} {s = r .result} {n = decimalOf (c .before .before .before .magnitude .result)}
+    (c .before .before .before .before .before .before .before .append .ensures) (r .ensures))
 
 magnitude-requires-2 : tie.Need-magnitude-requires-2
 magnitude-requires-2 c κs = search needs

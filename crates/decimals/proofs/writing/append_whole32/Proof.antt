@@ -14,6 +14,12 @@ use Rattle.decimals.proofs.writing.append_whole32.Tie as tie
 wide : (s : tie.Start) → SFits w64 (toZ w32 (ofZ w32 (s .args .n)))
 wide s = subst⁻¹ (SFits w64) (toZ-ofZ (s .fits .n)) (sfits-widen tt (s .fits .n))
 
+returns : tie.Need-returns
+returns c =
+    let s = c .before .before .before .before .before in
+    let r = c .before .before .append-whole in
+    subst (λ (n : ℤ). Appended (now (s .args .into)) (s .args .held) (textOf n) (r .last .0) (r .result)) (toZ-ofZ (wide s) ∙ toZ-ofZ (s .fits .n)) (r .ensures)
+
 cast-append-whole : tie.Need-cast-append-whole
 cast-append-whole c = wide (c .before .before)
 
@@ -22,12 +28,6 @@ append-whole-requires c κs = search needs
 
 same-length : tie.Need-same-length
 same-length c = search needs
-
-returns : tie.Need-returns
-returns c =
-    let s = c .before .before .before .before .before in
-    let r = c .before .before .append-whole in
-    subst (λ (n : ℤ). Appended (now (s .args .into)) (s .args .held) (textOf n) (r .last .0) (r .result)) (toZ-ofZ (wide s) ∙ toZ-ofZ (s .fits .n)) (r .ensures)
 
 pub append-whole32-spec : {M : Type 1} → statement M
 append-whole32-spec =
