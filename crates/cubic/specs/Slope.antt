@@ -7,15 +7,16 @@ use Rattle.integers.specs.Ring.{ring, quote}
 use Rattle.integers.specs.Order.{signs, 0≤-as, 0≤-cancel, 0<-product}
 use Rattle.cubic.specs.Piece.{slopeAt}
 
--- the slope in Bernstein's form
-pub bernstein : (Z a b k q : ℤ) → slopeAt Z a b k q ≡ a *ℤ ((q -ℤ k) *ℤ (q -ℤ k)) +ℤ pos 2 *ℤ (pos 3 *ℤ Z -ℤ (a +ℤ b)) *ℤ (k *ℤ (q -ℤ k)) +ℤ b *ℤ (k *ℤ k)
-bernstein Z a b k q = ring (Z ∷ a ∷ b ∷ k ∷ q ∷ []) (search quote depth 30 fits 9000) tt
-
+-- at the two ends it is a and b
 pub at-start : (Z a b : ℤ) → slopeAt Z a b (pos 0) (pos 1) ≡ a
 at-start Z a b = ring (Z ∷ a ∷ b ∷ []) (search quote depth 30 fits 9000) tt
 
 pub at-end : (Z a b : ℤ) → slopeAt Z a b (pos 1) (pos 1) ≡ b
 at-end Z a b = ring (Z ∷ a ∷ b ∷ []) (search quote depth 30 fits 9000) tt
+
+-- the slope in Bernstein's form
+pub bernstein : (Z a b k q : ℤ) → slopeAt Z a b k q ≡ a *ℤ ((q -ℤ k) *ℤ (q -ℤ k)) +ℤ pos 2 *ℤ (pos 3 *ℤ Z -ℤ (a +ℤ b)) *ℤ (k *ℤ (q -ℤ k)) +ℤ b *ℤ (k *ℤ k)
+bernstein Z a b k q = ring (Z ∷ a ∷ b ∷ k ∷ q ∷ []) (search quote depth 30 fits 9000) tt
 
 -- read from the right end: a and b, k and q − k change places
 pub mirrored : (Z a b k q : ℤ) → slopeAt Z a b k q ≡ slopeAt Z b a (q -ℤ k) q
