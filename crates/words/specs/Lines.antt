@@ -1,5 +1,5 @@
 -- What the bytes of a line are, out of a stream of bytes.
-use Prim.Native.Nat.{ℕ, _-_, _≤_}
+use Prim.Native.Nat.{ℕ, _-_}
 use mathlib.Core.Path.{_≡_}
 use mathlib.Core.Bool.{Bool, not, cond}
 use mathlib.Core.List.{List, _++_}
@@ -23,10 +23,7 @@ withoutReturn line = cond (eqb (getD line (length line - 1) 0) 13) (take (length
 abbrev pub joined : List ℕ → ℕ → List ℕ → List ℕ
 joined buffer held more = take (length buffer) (take held buffer ++ more)
 
--- what `append` leaves: r bytes, which are the joined ones, and behind them what stood there before
+-- What `append` answers and leaves: how many bytes are joined, and these in front, with what stood there before behind them.
 pub record Appended (before : List ℕ) (held : ℕ) (more after : List ℕ) (r : ℕ) : Type 0 where
-  pub within : r ≤ length after
-  pub counted : r ≡ length (take r after)
-  pub content : take r after ≡ joined before held more
-  pub rest : drop r after ≡ drop r before
-  pub size : length after ≡ length before
+  pub counted : r ≡ length (joined before held more)
+  pub buffer : after ≡ joined before held more ++ drop r before
