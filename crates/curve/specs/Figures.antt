@@ -12,10 +12,9 @@ use Rattle.curve.specs.Curve.{ValueAt}
 abbrev pub falling : Table
 falling = table (pos 0 ∷ pos 3 ∷ []) (pos 0 ∷ negsuc 9 ∷ []) (negsuc 852 ∷ negsuc 852 ∷ [])
 
--- "these last give −4 at position 1", and, by the sampling program's lines, these values at the others
+-- the values at the other positions, by the sampling program's lines; −4 at position 1 stands in `Sixteen.antt` of `demands`
 pub record Sampled : Type 0 where
   pub at-0 : ValueAt falling (pos 0) (pos 0)
-  pub at-1 : ValueAt falling (pos 1) (negsuc 3)
   pub at-2 : ValueAt falling (pos 2) (negsuc 6)
   pub at-3 : ValueAt falling (pos 3) (negsuc 9)
 
@@ -23,7 +22,6 @@ pub sampled : Sampled
 sampled =
     record {
       at-0 = record { piece = 0; belongs = inside {i = 0} (omega arith) (leZ-yes tt) (ltZ-yes tt); is = refl };
-      at-1 = record { piece = 0; belongs = inside {i = 0} (omega arith) (leZ-yes tt) (ltZ-yes tt); is = refl };
       at-2 = record { piece = 0; belongs = inside {i = 0} (omega arith) (leZ-yes tt) (ltZ-yes tt); is = refl };
       at-3 = record { piece = 0; belongs = at-last-knot {i = 0} refl refl; is = refl };
     }

@@ -105,6 +105,9 @@ append-natural into held n = append into held (decimalOf n)
 pub append-whole : (into : List ℕ) (held : ℕ) (n : ℤ) → Determined (λ (r : List ℕ × ℕ). Appended into held (textOf n) (r .0) (r .1))
 append-whole into held n = append into held (textOf n)
 
+pub append-whole32 : (into : List ℕ) (held : ℕ) (n : ℤ) → Determined (λ (r : List ℕ × ℕ). Appended into held (textOf n) (r .0) (r .1))
+append-whole32 = append-whole
+
 -- ---- rules
 
 pub count-within : (n : ℕ) → Determined (Decided (CountWithin n))
