@@ -1,42 +1,31 @@
 -- The three demands that decide everything, sentence by sentence, and beneath each sentence the theorems that say it. What a theorem takes of a call is what its
 -- function promises (the `ensures` line), so that it holds of whatever the function answers.
-use mathlib.Core.Path.{_≡_, refl, sym, _∙_, ap, subst}
-use mathlib.Core.Bool.{Bool, true, false, not}
+use mathlib.Core.Path.{_≡_, refl, sym, _∙_, ap}
 use mathlib.Core.Logic.{_↔_, _⊎_, inl, inr, ⊎-elim}
-use mathlib.Core.List.{List, [], _∷_}
-use Prim.Native.Nat.{ℕ, zero, suc, _+_, _-_, _<_, _≤_}
+use mathlib.Core.List.{List}
+use Prim.Native.Nat.{ℕ, zero, suc, _+_, _<_, _≤_}
 use native.Mathlib.Omega.{arith}
-use lib.Dec.{T, leb, leb→le, nleb→lt}
-use lib.IntN.{ℤ, pos, negsuc, _+ℤ_, _-ℤ_}
-use lib.Signed.{_<ℤ_, ltZ-yes}
+use lib.IntN.{ℤ, pos, negsuc, _-ℤ_}
 use lib.ListN.{length, length-set}
 use Rattle.integers.specs.Promise.{Floor}
-use Rattle.integers.specs.Linear.{lin, says}
-use Rattle.integers.specs.Order.{positives}
-use Rattle.integers.specs.Division.{floor-of}
 use Rattle.cubic.specs.Piece.{unit}
 use Rattle.cubic.specs.Slopes.{endSlope, innerSlope}
 use Rattle.cubic.specs.Value.{numerator, denominator}
 use Rattle.rules.specs.Limits.{WidthWithin, RiseWithin}
-use Rattle.rules.specs.Known.{0<-width}
 use Rattle.rules.specs.Refusals.{Given, done, passed}
-use Rattle.rules.specs.Order.{one-given, stopped, went-on, kept, answer-right}
+use Rattle.rules.specs.Order.{one-given, went-on, kept, answer-right}
 use Rattle.table.specs.declared.changed.Change.{Change}
 use Rattle.table.specs.Table.{Table, table, entry, step, Holds, not-monotone, buildOrder, checkOrder}
-use Rattle.table.specs.Accepted.{accepted-points, accepted-table}
+use Rattle.table.specs.Accepted.{accepted-table}
 use Rattle.table.specs.Changed.{changedBy}
 use Rattle.piece.specs.Promise.{Word, rising, falling, flat, answer, leaning, Judged, width-refused, rise-refused, monotone, bent}
-use Rattle.slopes.specs.Slopes.{endAt, innerAt, builtSlope, Built}
-use Rattle.slopes.specs.Cases.{first-slope, inner-slope, last-slope}
-use Rattle.slopes.specs.Put.{tab-length, tab-entry}
+use Rattle.slopes.specs.Slopes.{builtSlope, Built}
+use Rattle.slopes.specs.Put.{tab-length}
 use Rattle.slopes.specs.Determined.{one-build}
 use Rattle.slopes.specs.EveryPiece.{every-piece-of-a-built-table-is-monotone, a-built-table-passes-the-table-check}
-use Rattle.slopes.specs.Figures.{ends-of-32-bits-are-refused}
 use Rattle.position.specs.Position.{Belongs}
-use Rattle.position.specs.Pieces.{within-list}
-use Rattle.position.specs.Refused.{as-checked, accepted-at}
+use Rattle.position.specs.Refused.{accepted-at}
 use Rattle.curve.specs.Curve.{Evaluated}
-use Rattle.drive.specs.Refused.{as-evaluated}
 use Rattle.change.specs.Change.{Changed}
 use Rattle.change.specs.Chain.{Chain, the-slopes-equal-those-built-afresh}
 use Rattle.change.specs.Beside.{Near}
@@ -44,6 +33,7 @@ use Rattle.change.specs.WhatIsWritten.{the-point-holds-the-new-knot, the-point-
 use Rattle.change.specs.RefusedAsABuild.{made-only-then, made-then}
 use Rattle.demands.specs.First.{First, NoneHolds, refused-exactly, done-exactly}
 use Rattle.demands.specs.Calls.{Call, build, check, locate, evaluate, float-answer, orderOf, CauseOf, Answers, by-the-order}
+use Rattle.demands.specs.Shown.{opposite-ends, by-a-build, by-a-check, by-an-evaluation, by-a-float-answer, at-first, at-inner, at-last, value-floor, less-or-not}
 use Rattle.demands.specs.Cubic.{NoSlopeAgainstItsRise, no-slope-against, monotone-without}
 
 -- ======== 1. "Any points, slopes, positions and edits may come in, from any list of any length. Nothing traps, nothing is computed from a wrapped number, nobody is
@@ -60,28 +50,15 @@ pub data Asks (t : Table) : Call → Type 0 where
   a-value : (x : ℤ) → Asks t (evaluate t x)
   a-float-answer : (x : ℤ) → Asks t (float-answer t x)
 
-module _ (v w m n : ℤ) where
-  abbrev opposite-ends : Table
-  opposite-ends = table (pos 2147483647 ∷ negsuc 2147483647 ∷ []) (v ∷ w ∷ []) (m ∷ n ∷ [])
-
-  pub counts-at-opposite-ends-are-refused : {call : Call} {number place : ℕ} → Asks opposite-ends call → Answers call number place → (number ≡ 3) × (place ≡ 0)
-  counts-at-opposite-ends-are-refused asks a = one-given (by-the-order a) (given asks)
-    where
-      built : Given (Holds opposite-ends) buildOrder 3 0
-      built = ends-of-32-bits-are-refused v w m n
-
-      checked : Given (Holds opposite-ends) checkOrder 3 0
-      checked = stopped (5 ∷ []) (λ e. omega arith) built
-
-      evaluated : (x : ℤ) → Given (CauseOf (evaluate opposite-ends x)) (orderOf (evaluate opposite-ends x)) 3 0
-      evaluated x = stopped (6 ∷ []) (λ e. omega arith) (as-checked checked)
-
-      given : {call : Call} → Asks opposite-ends call → Given (CauseOf call) (orderOf call) 3 0
-      given a-build = built
-      given a-check = checked
-      given (a-place x) = evaluated x
-      given (a-value x) = evaluated x
-      given (a-float-answer x) = stopped (8 ∷ []) (λ e. omega arith) (as-evaluated (evaluated x))
+pub counts-at-opposite-ends-are-refused : {v w m n : ℤ} {call : Call} {number place : ℕ} → Asks (opposite-ends v w m n) call → Answers call number place → (number ≡ 3) × (place ≡ 0)
+counts-at-opposite-ends-are-refused {v} {w} {m} {n} asks a = one-given (by-the-order a) (given asks)
+  where
+    given : {call : Call} → Asks (opposite-ends v w m n) call → Given (CauseOf call) (orderOf call) 3 0
+    given a-build = by-a-build v w m n
+    given a-check = by-a-check v w m n
+    given (a-place x) = by-an-evaluation v w m n x
+    given (a-value x) = by-an-evaluation v w m n x
+    given (a-float-answer x) = by-a-float-answer v w m n x
 
 -- ======== "Each refusal has its number and place by a fixed order, is given exactly when its cause holds and no earlier one does, and changes no lent list."
 --
@@ -150,22 +127,9 @@ pub record RightSlopes (knots values slopes : List ℤ) : Type 0 where
   pub last : (i : ℕ) → i + 2 ≡ length knots → entry slopes (i + 1) ≡ endSlope unit (step knots i) (step values i)
 
 module _ {knots values before after : List ℤ} {place : ℕ} (b : Built knots values before after 0 place) where
-  slope-at : (i : ℕ) → i < length knots → entry after i ≡ builtSlope knots values i
-  slope-at i l = ap (λ (list : List ℤ). entry list i) (b .slopes) ∙ tab-entry (length knots) (builtSlope knots values) i l
-
   pub slopes-we-build-are-the-right-ones : RightSlopes knots values after
   slopes-we-build-are-the-right-ones =
-      record {
-        as-many = ap length (b .slopes) ∙ tab-length (length knots) (builtSlope knots values);
-        first = slope-at 0 (omega (arith, accepted-points refl (b .refusal) .count .low)) ∙ sym (first-slope knots values 0 refl);
-        inner = λ i l.
-            slope-at (i + 1) (omega arith) ∙ sym (inner-slope knots values (i + 1) (λ e. omega arith) (omega arith)) ∙ ap (λ (j : ℕ). innerAt knots values j (i + 1)) (back i);
-        last = λ i e.
-            slope-at (i + 1) (omega arith) ∙ sym (last-slope knots values (i + 1) (λ e. omega arith) (omega arith)) ∙ ap (endAt knots values) (back i);
-      }
-    where
-      back : (i : ℕ) → i + 1 - 1 ≡ i
-      back i = omega arith
+      record { as-many = ap length (b .slopes) ∙ tab-length (length knots) (builtSlope knots values); first = at-first b; inner = at-inner b; last = at-last b }
 
   pub slopes-we-build-get-a-yes-always : NoneAgainst (table knots values after)
   slopes-we-build-get-a-yes-always i l = no-slope-against (every-piece-of-a-built-table-is-monotone b i l)
@@ -182,19 +146,9 @@ pub record ExactRoundedDown (t : Table) (x v : ℤ) : Type 0 where
   pub rounded-down : Floor (numerator unit (step (t .knots) piece) (step (t .values) piece) (entry (t .slopes) piece) (entry (t .slopes) (piece + 1)) (x -ℤ entry (t .knots) piece)) (denominator unit (step (t .knots) piece)) (v -ℤ entry (t .values) piece)
 
 pub the-position-answered-is-the-exact-cubic-rounded-down : {t : Table} {x v : ℤ} {place : ℕ} → Evaluated t x 0 place v → ExactRoundedDown t x v
-the-position-answered-is-the-exact-cubic-rounded-down {t} {x} {v} e =
+the-position-answered-is-the-exact-cubic-rounded-down e =
     let at = answer-right refl (e .value) in
-    record {
-      piece = at .piece;
-      belongs = at .belongs;
-      rounded-down = subst (Floor _ _) (sym (more v (entry (t .values) (at .piece)) _ (at .is))) (floor-of _ (below (0<-width (accepted-at refl (e .refusal) .limits .widths (at .piece) (within-list (at .belongs))))));
-    }
-  where
-    more : (v l r : ℤ) → v ≡ l +ℤ r → v -ℤ l ≡ r
-    more v l r = lin (v ∷ l ∷ r ∷ []) (search says depth 30 fits 9000) (omega arith)
-
-    below : {h : ℤ} → pos 0 <ℤ h → pos 0 <ℤ denominator unit h
-    below {h} h₀ = let u : pos 0 <ℤ unit = ltZ-yes tt in search positives
+    record { piece = at .piece; belongs = at .belongs; rounded-down = value-floor (accepted-at refl (e .refusal)) (at .belongs) (at .is) }
 
 -- ======== 3. "Change one point of a table whose slopes we built, any number of times, refused changes among them: the slopes then equal those built afresh."
 
@@ -239,10 +193,6 @@ an-accepted-change-does-just-this {c} {before} change =
 module _ {c : Change} {before after : Table} {built : List ℤ} {number place m q : ℕ} (change : Changed c before after number place) (build : Built (changedBy c before .knots) (changedBy c before .values) (before .slopes) built m q) where
   pub a-change-is-refused-exactly-then : (number ≡ 0 → ⊥) ↔ ((m ≡ 0 → ⊥) ⊎ (length (before .knots) ≤ c .point))
   a-change-is-refused-exactly-then = (
-    λ f. split f (leb (length (before .knots)) (c .point)) refl,
+    λ f. ⊎-elim (λ l. inl (λ e. f (made-then change build l e))) inr (less-or-not (c .point) (length (before .knots))),
     λ r e. let made = made-only-then change build e in ⊎-elim (λ g. g (made .1)) (λ l. absurd (omega (arith, l, made .0))) r,
   )
-    where
-      split : (number ≡ 0 → ⊥) → (b : Bool) → leb (length (before .knots)) (c .point) ≡ b → (m ≡ 0 → ⊥) ⊎ (length (before .knots) ≤ c .point)
-      split f true t = inr (leb→le (length (before .knots)) (c .point) (subst T (sym t) tt))
-      split f false t = inl (λ e. f (made-then change build (nleb→lt (length (before .knots)) (c .point) (subst (λ (b : Bool). T (not b)) (sym t) tt)) e))

@@ -1,6 +1,7 @@
-pub mod Sixteen
-pub mod First
-pub mod Cubic
 pub mod Calls
+pub mod Cubic
 pub mod Demands
 pub mod Determined
+pub mod First
+pub mod Shown
+pub mod Sixteen
