@@ -1,4 +1,5 @@
 -- `piece::coefficients` meets its contract: within the limits each step stays below 2^44.
+use mathlib.Core.Path.{refl, _∙_}
 use mathlib.Core.List.{List, [], _∷_}
 use mir.Syntax.{w32}
 use Rattle.integers.specs.Sizes.{Known, held, fits, plain-is, code}
@@ -14,11 +15,12 @@ given s =
     ∷ held w32 (s .args .n) (s .fits .n)
     ∷ []
 
+-- `∙ refl` compares the plain value alone, so that another coefficient is refused in plain sight
 returns : tie.Need-returns
 returns c =
     record {
       first-is = plain-is {Γ = given c} (search code depth 30 fits 9000) tt;
-      second-is = plain-is {Γ = given c} (search code depth 30 fits 9000) tt;
+      second-is = plain-is {Γ = given c} (search code depth 30 fits 9000) tt ∙ refl;
       third-is = plain-is {Γ = given c} (search code depth 30 fits 9000) tt;
     }
 
