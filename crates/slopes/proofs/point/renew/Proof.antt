@@ -55,7 +55,7 @@ loop-again c =
     let i = c .before .before .loop .i in (
       omega (arith, inv .0),
       omega (arith, c .before .loop-test .taken),
-      ap₂ (λ (list : List ℤ) (m : ℤ). set list i m) (inv .2) (returned w32 (c .slope .ok) (c .slope .ensures))
+      ap₂ (λ (list : List ℤ) (m : ℤ). set list i m) (inv .2) (returned w32 {x = builtSlope (s .knots .now) (s .values .now) i} (c .slope .ok) (c .slope .ensures))
           ∙ put-next (builtSlope (s .knots .now) (s .values .now)) (s .from) (s .slopes .now) i (inv .0),
     )
 

@@ -1,5 +1,5 @@
 -- `slopes::rule::mean` meets its contract: every step fits, and the quotient is at most three times the left piece's slope.
-use mathlib.Core.Path.{_≡_, sym, _∙_, subst}
+use mathlib.Core.Path.{_≡_, refl, sym, _∙_, subst}
 use mathlib.Core.List.{List, [], _∷_}
 use lib.IntN.{ℤ, pos}
 use lib.Signed.{_≤ℤ_, quotZ}
@@ -86,7 +86,11 @@ div-steepness c =
     let Γ = given c in
     (not-zero Γ (search zeros depth 30 fits 9000) tt (divisor c), fits Γ (search code depth 30 fits 9000) tt)
 
-is-mean : (s : tie.Start) → let a = s .args in quotZ (meanAbove unit (a .h1) (a .z1) (a .h2) (a .z2)) (meanBelow (a .h1) (a .z1) (a .h2) (a .z2)) ≡ mean unit (a .h1) (a .z1) (a .h2) (a .z2)
+-- the quotient of the exact rules, which the code's plain value is
+abbrev quotient : tie.Start → ℤ
+quotient s = let a = s .args in quotZ (meanAbove unit (a .h1) (a .z1) (a .h2) (a .z2)) (meanBelow (a .h1) (a .z1) (a .h2) (a .z2))
+
+is-mean : (s : tie.Start) → let a = s .args in quotient s ≡ mean unit (a .h1) (a .z1) (a .h2) (a .z2)
 is-mean s =
     let a = s .args in
     let h₁ = <ℤ→≤ℤ (0<-width (s .pre .0 .within .width)) in
@@ -103,7 +107,7 @@ small s =
 
 cast-result : tie.Need-cast-result
 cast-result c =
-    subst (λ (v : ℤ). SFits w32 v) (sym (plain-is {Γ = given c} (search code depth 30 fits 9000) tt ∙ is-mean c)) (small c)
+    subst (λ (v : ℤ). SFits w32 v) (sym (_∙_ {c = quotient c} (plain-is {Γ = given c} (search code depth 30 fits 9000) tt) refl ∙ is-mean c)) (small c)
 
 returns : tie.Need-returns
 returns c =

@@ -1,11 +1,13 @@
 -- `slopes::build` meets its contract: what no cause refuses is written from the first point to the last.
-use mathlib.Core.Path.{_∙_}
+use mathlib.Core.Path.{_≡_, _∙_}
+use Prim.Native.Nat.{_-_}
+use lib.ListN.{length}
 use native.Mathlib.Omega.{arith}
 use borrow.Author.Needs.{needs}
 use Rattle.rules.specs.Order.{clear, kept, replaced}
 use Rattle.table.specs.Accepted.{accepted-points, same-lengths}
 use Rattle.slopes.specs.Slopes.{builtSlope, builtSlopes}
-use Rattle.slopes.specs.Put.{put-all}
+use Rattle.slopes.specs.Put.{put, put-all}
 use Rattle.slopes.proofs.whole.build.Statement.{statement}
 use Rattle.slopes.proofs.whole.build.Tie as tie
 
@@ -34,6 +36,10 @@ returns c =
 same-length-2 : tie.Need-same-length-2
 same-length-2 c = search needs
 
+-- every slope is written, from the first point to the last
+written : (c : tie.After-renew) → let s = c .before .before .before .before .before .before .args in c .renew .last .1 .1 .0 ≡ put (builtSlope (s .knots .now) (s .values .now)) 0 (length (s .knots .now) - 0) (s .slopes .now)
+written c = c .renew .ensures
+
 returns-2 : tie.Need-returns-2
 returns-2 c =
     let s = c .before .before .before .before .before .before .before .args in
@@ -42,7 +48,7 @@ returns-2 c =
     record {
       refusal = given;
       slopes =
-          c .before .renew .ensures
+          written (c .before)
           ∙ put-all (builtSlope (s .knots .now) (s .values .now)) (s .slopes .now) _ (same-lengths (clear done given) .slopes)
           ∙ replaced (s .slopes .now) (builtSlopes (s .knots .now) (s .values .now)) done;
     }
