@@ -1,5 +1,5 @@
 -- `curve::value_on` meets its contract: the value lies between the piece's two values, each of which fits 32 bits.
-use mathlib.Core.Path.{_≡_, sym, _∙_, ap, subst}
+use mathlib.Core.Path.{_≡_, refl, sym, _∙_, ap, subst}
 use mathlib.Core.List.{List, [], _∷_}
 use native.Mathlib.Omega.{arith}
 use lib.IntN.{ℤ, _+ℤ_, _-ℤ_}
@@ -43,13 +43,17 @@ value-fits-32 c =
     across : (l z : ℤ) → z ≡ l +ℤ z -ℤ l
     across l z = lin (l ∷ z ∷ []) (search says depth 30 fits 9000) (omega arith)
 
-is-value : (c : tie.After-risen) → let s = c .before .before .before .before .before .before .args .s in s .left +ℤ c .risen .result ≡ s .left +ℤ risen unit (s .h) (s .z) (s .m) (s .n) (s .t)
+-- what the code's plain value is
+abbrev sum : tie.After-risen → ℤ
+sum c = c .before .before .before .before .before .before .args .s .left +ℤ c .risen .result
+
+is-value : (c : tie.After-risen) → let s = c .before .before .before .before .before .before .args .s in sum c ≡ s .left +ℤ risen unit (s .h) (s .z) (s .m) (s .n) (s .t)
 is-value c = ap (λ (w : ℤ). c .before .before .before .before .before .before .args .s .left +ℤ w) (has-risen c)
 
 cast-result-2 : tie.Need-cast-result-2
 cast-result-2 c =
     let p = c .before .before in
-    subst (λ (v : ℤ). SFits w32 v) (sym (plain-is {Γ = summands p} (search code depth 30 fits 9000) tt ∙ is-value p)) (value-fits-32 p)
+    subst (λ (v : ℤ). SFits w32 v) (sym (_∙_ {c = sum p} (plain-is {Γ = summands p} (search code depth 30 fits 9000) tt) refl ∙ is-value p)) (value-fits-32 p)
 
 returns : tie.Need-returns
 returns c = let p = c .before .before in toZ-ofZ (cast-result-2 c) ∙ plain-is {Γ = summands p} (search code depth 30 fits 9000) tt ∙ is-value p

@@ -1,4 +1,5 @@
 -- `curve::rise::numerator` meets its contract: 19·2^58 bounds the last step.
+use mathlib.Core.Path.{refl, _∙_}
 use mathlib.Core.List.{List, [], _∷_}
 use Rattle.integers.specs.Sizes.{Known, known, fits, plain-is, code}
 use Rattle.rules.specs.Known.{known-width, known-inside}
@@ -38,8 +39,9 @@ add-result-2 c = fits (given c) (search code depth 30 fits 9000) tt
 mul-result-6 : tie.Need-mul-result-6
 mul-result-6 c = fits (given c) (search code depth 30 fits 9000) tt
 
+-- `∙ refl` compares the plain value alone, so that another step is refused in plain sight
 returns : tie.Need-returns
-returns c = plain-is {Γ = given c} (search code depth 30 fits 9000) tt
+returns c = plain-is {Γ = given c} (search code depth 30 fits 9000) tt ∙ refl
 
 pub numerator-spec : {M : Type 1} → statement M
 numerator-spec =
