@@ -1,4 +1,5 @@
 -- The calls that can be refused: what each is given, the causes that it asks for, their order, and what its function promises of the number and the place.
+use mathlib.Core.Path.{_≡_, subst}
 use mathlib.Core.List.{List, [], _∷_}
 use Prim.Native.Nat.{ℕ}
 use native.Mathlib.Omega.{arith}
@@ -8,14 +9,15 @@ use Rattle.rules.specs.Refusals.{Given, done, refused, passed}
 use Rattle.table.specs.declared.changed.Change.{Change}
 use Rattle.table.specs.Table.{Table, Holds, buildOrder, checkOrder}
 use Rattle.table.specs.Changed.{HoldsAfter, changeOrder}
-use Rattle.piece.specs.Promise.{Word, answer, Judged, width-refused, rise-refused, monotone, bent}
+use Rattle.piece.specs.declared.Verdict.{Verdict}
+use Rattle.piece.specs.Promise.{Word, answer, answerOf, Judged, width-refused, rise-refused, monotone, bent}
 use Rattle.slopes.specs.Slopes.{Built}
 use Rattle.position.specs.Position.{HoldsAt, Located}
 use Rattle.curve.specs.Curve.{Evaluated}
 use Rattle.drive.specs.Drive.{Told, HoldsFor, Driving}
 use Rattle.change.specs.Change.{Changed}
 
--- A public function and what comes in: a piece, or three lists as they are at the call, and what else.
+-- A public function and what comes in: a piece; or the three lists as they are at the call, and a position or a change.
 pub data Call : Type 0 where
   judge : (h z m n : ℤ) → Call
   points build check : Table → Call
@@ -51,9 +53,9 @@ CauseOf (float-answer t x) = HoldsFor t x
 CauseOf (changed-points c t) = HoldsAfter c t
 CauseOf (point c t) = HoldsAfter c t
 
--- A call answers this number and place: its function's promise, the rest of the answer being whatever it is.
+-- A call may answer this number at this place: so its function promises, whatever the rest of the answer is.
 pub data Answers : Call → (number place : ℕ) → Type 0 where
-  by-judge : {h z m n : ℤ} {k p : ℕ} {word : Word} → Judged h z m n (answer k p word) → Answers (judge h z m n) k p
+  by-judge : {h z m n : ℤ} {k p : ℕ} {word : Word} (r : Verdict) → answerOf r ≡ answer k p word → Judged h z m n (answerOf r) → Answers (judge h z m n) k p
   by-points : {t : Table} {k p : ℕ} → Given (Holds t) buildOrder k p → Answers (points t) k p
   by-build : {t : Table} {after : List ℤ} {k p : ℕ} → Built (t .knots) (t .values) (t .slopes) after k p → Answers (build t) k p
   by-check : {t : Table} {k p : ℕ} → Given (Holds t) checkOrder k p → Answers (check t) k p
@@ -78,7 +80,7 @@ alone (monotone w r o) = passed (width-taken w) (passed (rise-taken r) done)
 alone (bent w r f) = passed (width-taken w) (passed (rise-taken r) done)
 
 pub by-the-order : {call : Call} {k p : ℕ} → Answers call k p → Given (CauseOf call) (orderOf call) k p
-by-the-order (by-judge a) = alone a
+by-the-order (by-judge {h} {z} {m} {n} r e a) = alone (subst (Judged h z m n) e a)
 by-the-order (by-points g) = g
 by-the-order (by-build b) = b .refusal
 by-the-order (by-check g) = g

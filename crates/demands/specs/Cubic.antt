@@ -6,11 +6,12 @@ use native.Mathlib.Omega.{arith}
 use lib.Dec.{lit≤}
 use lib.IntN.{ℤ, pos, negℤ, _+ℤ_, _-ℤ_, _*ℤ_}
 use lib.Signed.{_≤ℤ_, _<ℤ_, ≤ℤ-refl}
+use Rattle.integers.specs.Promise.{Floor}
 use Rattle.integers.specs.Ring.{ring, quote}
 use Rattle.integers.specs.Linear.{lin, says}
 use Rattle.integers.specs.Order.{0≤-number, pos-≤}
 use Rattle.cubic.specs.Piece.{unit, slopeAt, riseAt, Monotone}
-use Rattle.cubic.specs.Rise.{at-left}
+use Rattle.cubic.specs.Rise.{at-left, at-right}
 use Rattle.cubic.specs.InOrder.{the-cubic-is-in-order}
 
 -- `slopeAt` is the slope of `riseAt`: from the fraction k/q on to (k + e)/q the cubic rises by e times its slope there, and a rest with e².
@@ -18,8 +19,21 @@ pub slopeAt-is-the-slope-of-riseAt : (Z a b k e q : ℤ)
     → riseAt Z a b (k +ℤ e) q ≡ riseAt Z a b k q +ℤ e *ℤ slopeAt Z a b k q +ℤ e *ℤ e *ℤ ((pos 3 *ℤ Z -ℤ pos 2 *ℤ a -ℤ b) *ℤ q +ℤ (a +ℤ b -ℤ pos 2 *ℤ Z) *ℤ (pos 3 *ℤ k +ℤ e))
 slopeAt-is-the-slope-of-riseAt Z a b k e q = ring (Z ∷ a ∷ b ∷ k ∷ e ∷ q ∷ []) (search quote depth 30 fits 9000) tt
 
+-- `riseAt` is the cubic of the piece: nothing at its left end, the whole rise at its right one, and at its ends the slopes a and b.
+pub riseAt-starts-at-nothing : (Z a b q : ℤ) → riseAt Z a b (pos 0) q ≡ pos 0
+riseAt-starts-at-nothing = at-left
+
+pub riseAt-ends-at-the-rise : (Z a b q : ℤ) → riseAt Z a b q q ≡ Z *ℤ (q *ℤ q *ℤ q)
+riseAt-ends-at-the-rise = at-right
+
+pub slopeAt-starts-with-a : (Z a b q : ℤ) → slopeAt Z a b (pos 0) q ≡ a *ℤ (q *ℤ q)
+slopeAt-starts-with-a Z a b q = ring (Z ∷ a ∷ b ∷ q ∷ []) (search quote depth 30 fits 9000) tt
+
+pub slopeAt-ends-with-b : (Z a b q : ℤ) → slopeAt Z a b q q ≡ b *ℤ (q *ℤ q)
+slopeAt-ends-with-b Z a b q = ring (Z ∷ a ∷ b ∷ q ∷ []) (search quote depth 30 fits 9000) tt
+
 module _ (h z m n : ℤ) where
-  -- the slope of the piece's cubic at the fraction k/q of its width, and what the cubic has risen by up to there, each over a positive number
+  -- the slope of the piece's cubic at the fraction k/q of its width, times 256·h·q², and what the cubic has risen by up to there, times 256·q³
   abbrev pub slope : (k q : ℕ) → ℤ
   slope k q = slopeAt (unit *ℤ z) (m *ℤ h) (n *ℤ h) (pos k) (pos q)
 
@@ -32,7 +46,11 @@ module _ (h z m n : ℤ) where
     pub falling : z <ℤ pos 0 → (k q : ℕ) → 1 ≤ q → k ≤ q → slope k q ≤ℤ pos 0
     pub level : z ≡ pos 0 → (k q : ℕ) → 1 ≤ q → k ≤ q → rise k q ≡ pos 0
 
--- ---- this is the exact rules' definition
+  -- w is what the cubic has risen by, t counts into the piece, rounded down to a whole number: w·d ≤ n < (w + 1)·d, where n/d is the cubic
+  abbrev pub RoundedDown : (t w : ℤ) → Type 0
+  RoundedDown t w = Floor (riseAt (unit *ℤ z) (m *ℤ h) (n *ℤ h) t h) (unit *ℤ (h *ℤ h *ℤ h)) w
+
+-- ---- that no slope is against the rise is the exact rules' definition
 
 turned : (Z a b k q : ℤ) → slopeAt (negℤ Z) (negℤ a) (negℤ b) k q ≡ negℤ (slopeAt Z a b k q)
 turned Z a b k q = ring (Z ∷ a ∷ b ∷ k ∷ q ∷ []) (search quote depth 30 fits 9000) tt

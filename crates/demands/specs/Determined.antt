@@ -70,7 +70,7 @@ between low x high = decided
 pub floor-div : (n d : ℤ) → Determined (Quotient n d)
 floor-div n d r s p q = equal r s (p .is) (q .is)
 
--- ---- words: a line is a list of bytes, and so is a part of it that is returned
+-- ---- words: a line is the list of its bytes, and so is a part of it that is returned
 
 pub find : (bytes : List ℕ) (from byte : ℕ) → Determined (λ (r : ℕ). r ≡ firstOf byte bytes from)
 find bytes from byte = equal
@@ -91,7 +91,7 @@ part line start end = equal
 pub append : (into : List ℕ) (held : ℕ) (more : List ℕ) → Determined (λ (r : List ℕ × ℕ). Appended into held more (r .0) (r .1))
 append into held more r s p q = λ i. (one-buffer p q i, one-count p q i)
 
--- ---- decimals: `append_natural`, `append_whole` and `append_whole32` promise what `append` does of the number's text
+-- ---- decimals
 
 pub whole : (text : List ℕ) → Determined (λ (r : Number). r ≡ numberOf text)
 whole text = equal
@@ -99,6 +99,7 @@ whole text = equal
 pub whole32 : (text : List ℕ) → Determined (λ (r : Number32). r ≡ number32Of text)
 whole32 text = equal
 
+-- what `append` promises, of the number's text
 pub append-natural : (into : List ℕ) (held n : ℕ) → Determined (λ (r : List ℕ × ℕ). Appended into held (decimalOf n) (r .0) (r .1))
 append-natural into held n = append into held (decimalOf n)
 

@@ -3,5 +3,6 @@ pub mod Cubic
 pub mod Demands
 pub mod Determined
 pub mod First
+pub mod Rules
 pub mod Shown
 pub mod Sixteen

@@ -1,4 +1,4 @@
--- What the demands rest on and no crate below says in these words.
+-- What the demands say of single cases: two counts at opposite ends of 32 bits, the slope at each point, the value on a piece.
 use mathlib.Core.Path.{_≡_, refl, sym, _∙_, ap, subst}
 use mathlib.Core.Bool.{Bool, true, false, not}
 use mathlib.Core.Logic.{_⊎_, inl, inr}
@@ -14,12 +14,12 @@ use Rattle.integers.specs.Linear.{lin, says}
 use Rattle.integers.specs.Order.{positives}
 use Rattle.integers.specs.Division.{floor-of}
 use Rattle.cubic.specs.Piece.{unit}
-use Rattle.cubic.specs.Value.{numerator, denominator}
+use Rattle.cubic.specs.Value.{denominator}
 use Rattle.rules.specs.Known.{0<-width}
 use Rattle.rules.specs.Refusals.{Given}
 use Rattle.rules.specs.Order.{stopped}
 use Rattle.table.specs.Table.{Table, table, entry, step, Holds, buildOrder, checkOrder}
-use Rattle.table.specs.Accepted.{Accepted, accepted-points}
+use Rattle.table.specs.Accepted.{Points, Accepted, accepted-points}
 use Rattle.slopes.specs.Slopes.{endAt, innerAt, builtSlope, Built}
 use Rattle.slopes.specs.Cases.{first-slope, inner-slope, last-slope}
 use Rattle.slopes.specs.Put.{tab-entry}
@@ -30,6 +30,8 @@ use Rattle.position.specs.Refused.{as-checked}
 use Rattle.curve.specs.Curve.{valueOn}
 use Rattle.drive.specs.Drive.{HoldsFor, floatOrder}
 use Rattle.drive.specs.Refused.{as-evaluated}
+use Rattle.demands.specs.Rules.{EndRule, MeanRule, end-rule, mean-rule}
+use Rattle.demands.specs.Cubic.{RoundedDown}
 
 -- ---- two counts at opposite ends of 32 bits
 
@@ -58,21 +60,30 @@ module _ {ks vs before after : List ℤ} {place : ℕ} (b : Built ks vs before a
   back : (i : ℕ) → i + 1 - 1 ≡ i
   back i = omega arith
 
-  pub at-first : entry after 0 ≡ endAt ks vs 0
-  at-first = slope-at 0 (omega (arith, accepted-points refl (b .refusal) .count .low)) ∙ sym (first-slope ks vs 0 refl)
+  limits : Points ks vs
+  limits = accepted-points refl (b .refusal)
 
-  pub at-inner : (i : ℕ) → i + 2 < length ks → entry after (i + 1) ≡ innerAt ks vs i (i + 1)
+  pub at-first : EndRule (step ks 0) (step vs 0) (entry after 0)
+  at-first =
+      let n = limits .count .low in
+      subst (EndRule (step ks 0) (step vs 0)) (first-slope ks vs 0 refl ∙ sym (slope-at 0 (omega (arith, n)))) (end-rule (step vs 0) (0<-width (limits .widths 0 (omega (arith, n)))))
+
+  pub at-inner : (i : ℕ) → i + 2 < length ks → MeanRule (step ks i) (step vs i) (step ks (i + 1)) (step vs (i + 1)) (entry after (i + 1))
   at-inner i l =
-      slope-at (i + 1) (omega arith) ∙ sym (inner-slope ks vs (i + 1) (λ e. omega arith) (omega arith)) ∙ ap (λ (j : ℕ). innerAt ks vs j (i + 1)) (back i)
+      subst (MeanRule (step ks i) (step vs i) (step ks (i + 1)) (step vs (i + 1)))
+      (ap (λ (j : ℕ). innerAt ks vs j (i + 1)) (sym (back i)) ∙ inner-slope ks vs (i + 1) (λ e. omega arith) (omega arith) ∙ sym (slope-at (i + 1) (omega arith)))
+      (mean-rule (step vs i) (step vs (i + 1)) (0<-width (limits .widths i (omega arith))) (0<-width (limits .widths (i + 1) (omega arith))))
 
-  pub at-last : (i : ℕ) → i + 2 ≡ length ks → entry after (i + 1) ≡ endAt ks vs i
+  pub at-last : (i : ℕ) → i + 2 ≡ length ks → EndRule (step ks i) (step vs i) (entry after (i + 1))
   at-last i e =
-      slope-at (i + 1) (omega arith) ∙ sym (last-slope ks vs (i + 1) (λ e. omega arith) (omega arith)) ∙ ap (endAt ks vs) (back i)
+      subst (EndRule (step ks i) (step vs i))
+      (ap (endAt ks vs) (sym (back i)) ∙ last-slope ks vs (i + 1) (λ e. omega arith) (omega arith) ∙ sym (slope-at (i + 1) (omega arith)))
+      (end-rule (step vs i) (0<-width (limits .widths i (omega arith))))
 
 -- ---- the value on a piece is the exact cubic, rounded down, put on the left value
 
 pub value-floor : {t : Table} {x v : ℤ} {i : ℕ} → Accepted t → Belongs (t .knots) x i → v ≡ valueOn t i x
-    → Floor (numerator unit (step (t .knots) i) (step (t .values) i) (entry (t .slopes) i) (entry (t .slopes) (i + 1)) (x -ℤ entry (t .knots) i)) (denominator unit (step (t .knots) i)) (v -ℤ entry (t .values) i)
+    → RoundedDown (step (t .knots) i) (step (t .values) i) (entry (t .slopes) i) (entry (t .slopes) (i + 1)) (x -ℤ entry (t .knots) i) (v -ℤ entry (t .values) i)
 value-floor {t} {x} {v} {i} a b e =
     subst (Floor _ _) (sym (more v (entry (t .values) i) _ e)) (floor-of _ (below (0<-width (a .limits .widths i (within-list b)))))
   where

@@ -16,7 +16,9 @@ use Rattle.rules.specs.Order.{went-on}
 use Rattle.table.specs.Table.{table}
 use Rattle.table.specs.Accepted.{Points, points-accepted}
 use Rattle.table.specs.Tested.{points-by-test}
-use Rattle.piece.specs.Promise.{Word, rising, falling, flat, bends, answer, leaning, Judged, monotone, bent}
+use Rattle.piece.specs.Promise.{bends, answer, answerOf, leaning, Judged, monotone, bent}
+use Rattle.piece.specs.declared.Verdict.{Verdict}
+use Rattle.piece.specs.declared.Verdict.the-variants.{Rising, Falling, Flat, Bends}
 use Rattle.slopes.specs.Slopes.{builtSlopes, Built}
 use Rattle.slopes.specs.EveryPiece.{a-built-table-passes-the-table-check}
 use Rattle.position.specs.Position.{Belongs, inside, WithinKnots}
@@ -25,7 +27,7 @@ use Rattle.curve.specs.Curve.{valueOn, Evaluated}
 
 pub data Case : Type 0 where
   -- a piece h, z, m, n and its verdict
-  piece : (h z m n : ℤ) → Word → Case
+  piece : (h z m n : ℤ) → Verdict → Case
   -- points and the slopes that they have
   slopes : (knots values slopes : List ℤ) → Case
   -- points, a position and the value there
@@ -33,28 +35,28 @@ pub data Case : Type 0 where
 
 abbrev pub sixteen : List Case
 sixteen =
-    piece (pos 1) (pos 1) (pos 256) (pos 256) rising
-    ∷ piece (pos 1) (pos 1) (pos 768) (pos 768) rising
-    ∷ piece (pos 1) (pos 1) (pos 768) (pos 769) bends
-    ∷ piece (pos 1) (pos 1) (pos 1024) (pos 256) rising
-    ∷ piece (pos 1) (pos 1) (pos 1025) (pos 256) bends
-    ∷ piece (pos 1) (pos 1) (pos 1024) (pos 255) bends
-    ∷ piece (pos 1) (pos 1) (pos 768) (pos 0) rising
-    ∷ piece (pos 1) (pos 1) (pos 769) (pos 0) bends
-    ∷ piece (pos 1) (pos 0) (pos 0) (pos 0) flat
-    ∷ piece (pos 1) (pos 0) (pos 1) (negsuc 0) bends
-    ∷ piece (pos 1) (negsuc 0) (negsuc 767) (negsuc 767) falling
-    ∷ piece (pos 2) (pos 1) (pos 384) (pos 384) rising
+    piece (pos 1) (pos 1) (pos 256) (pos 256) Rising
+    ∷ piece (pos 1) (pos 1) (pos 768) (pos 768) Rising
+    ∷ piece (pos 1) (pos 1) (pos 768) (pos 769) Bends
+    ∷ piece (pos 1) (pos 1) (pos 1024) (pos 256) Rising
+    ∷ piece (pos 1) (pos 1) (pos 1025) (pos 256) Bends
+    ∷ piece (pos 1) (pos 1) (pos 1024) (pos 255) Bends
+    ∷ piece (pos 1) (pos 1) (pos 768) (pos 0) Rising
+    ∷ piece (pos 1) (pos 1) (pos 769) (pos 0) Bends
+    ∷ piece (pos 1) (pos 0) (pos 0) (pos 0) Flat
+    ∷ piece (pos 1) (pos 0) (pos 1) (negsuc 0) Bends
+    ∷ piece (pos 1) (negsuc 0) (negsuc 767) (negsuc 767) Falling
+    ∷ piece (pos 2) (pos 1) (pos 384) (pos 384) Rising
     ∷ slopes (pos 0 ∷ pos 1 ∷ pos 2 ∷ []) (pos 0 ∷ pos 1 ∷ pos 4 ∷ []) (pos 256 ∷ pos 384 ∷ pos 768 ∷ [])
     ∷ slopes (pos 0 ∷ pos 1 ∷ pos 3 ∷ []) (pos 0 ∷ pos 1 ∷ pos 2 ∷ []) (pos 256 ∷ pos 177 ∷ pos 128 ∷ [])
     ∷ slopes (pos 0 ∷ pos 3 ∷ []) (pos 0 ∷ negsuc 9 ∷ []) (negsuc 852 ∷ negsuc 852 ∷ [])
     ∷ value (pos 0 ∷ pos 3 ∷ []) (pos 0 ∷ negsuc 9 ∷ []) (pos 1) (negsuc 3)
     ∷ []
 
--- What a case says: `judge` is not refused and gives the verdict; `build`, over any list of as many slopes, is not refused and leaves these; and of a table that
--- `build` leaves, as the case before says that it does, `evaluate` is not refused and gives the value.
+-- What a case says: `judge` may answer this verdict; `build`, over any list of as many slopes, may answer 0 and leave these; and of the table that `build` leaves
+-- `evaluate` may answer 0 and this value. They can answer nothing else: `Determined.antt`.
 abbrev pub Gives : Case → Type 0
-Gives (piece h z m n word) = Judged h z m n (answer 0 0 word)
+Gives (piece h z m n verdict) = Judged h z m n (answerOf verdict)
 Gives (slopes knots values these) = (before : List ℤ) → length before ≡ length knots → Built knots values before these 0 0
 Gives (value knots values x v) = (before after : List ℤ) → Built knots values before after 0 0 → Evaluated (table knots values after) x 0 0 v
 

@@ -1,0 +1,79 @@
+-- The two rules for slopes, by what a slope is and not by how it is worked out.
+use mathlib.Core.Path.{_≡_, refl, sym, _∙_, ap, subst}
+use Prim.Native.Nat.{zero, suc}
+use lib.IntN.{ℤ, pos, negsuc, _+ℤ_, _*ℤ_, *ℤ-comm}
+use lib.Signed.{_≤ℤ_, _<ℤ_, ltZ-yes}
+use Rattle.integers.specs.Promise.{Floor, floorOf, magnitude, withSign}
+use Rattle.integers.specs.Order.{signs, positives, <ℤ→≤ℤ}
+use Rattle.integers.specs.Signs.{0<-magnitude}
+use Rattle.integers.specs.Division.{floor-of, 0≤-floor, toward-scaled}
+use Rattle.cubic.specs.Piece.{unit}
+use Rattle.cubic.specs.Slopes.{endSlope, meanAbove, meanBelow, innerSlope}
+use Rattle.cubic.specs.Inner.{inner-level, inner-steep}
+
+-- "256·z/h rounded toward zero": its size is 256·|z|/h, rounded down, and its sign that of the rise
+pub record EndRule (h z s : ℤ) : Type 0 where
+  pub size : Floor (pos 256 *ℤ magnitude z) h (magnitude s)
+  pub sign : s ≡ withSign z (magnitude s)
+
+-- "If z1·z2 ≤ 0 its slope is 0. Otherwise, with magnitudes of z1 and z2, it is 768·(h1 + h2)·z1·z2 / ((h1 + 2·h2)·h1·z2 + (2·h1 + h2)·h2·z1) rounded down, then given
+-- the sign of the rises."
+pub record MeanRule (h₁ z₁ h₂ z₂ s : ℤ) : Type 0 where
+  pub apart : (z₁ *ℤ z₂) ≤ℤ pos 0 → s ≡ pos 0
+  pub size : pos 0 <ℤ (z₁ *ℤ z₂) → Floor (pos 768 *ℤ (h₁ +ℤ h₂) *ℤ magnitude z₁ *ℤ magnitude z₂) ((h₁ +ℤ pos 2 *ℤ h₂) *ℤ h₁ *ℤ magnitude z₂ +ℤ (pos 2 *ℤ h₁ +ℤ h₂) *ℤ h₂ *ℤ magnitude z₁) (magnitude s)
+  pub sign : pos 0 <ℤ (z₁ *ℤ z₂) → s ≡ withSign z₁ (magnitude s)
+
+-- ---- the slopes that are built keep them
+
+signed-size : (z f : ℤ) → pos 0 ≤ℤ f → magnitude (withSign z f) ≡ f
+signed-size (pos n) (pos f) l = refl
+signed-size (negsuc n) (pos zero) l = refl
+signed-size (negsuc n) (pos (suc f)) l = refl
+signed-size z (negsuc f) l = absurd (l .le)
+
+-- a quotient rounded down, with the sign of z
+module _ (z n d : ℤ) {s : ℤ} (n₀ : pos 0 ≤ℤ n) (d₀ : pos 0 <ℤ d) (e : s ≡ withSign z (floorOf n d)) where
+  size-is : magnitude s ≡ floorOf n d
+  size-is = ap magnitude e ∙ signed-size z (floorOf n d) (0≤-floor d n₀)
+
+  its-size : Floor n d (magnitude s)
+  its-size = subst (Floor n d) (sym size-is) (floor-of n d₀)
+
+  its-sign : s ≡ withSign z (magnitude s)
+  its-sign = e ∙ ap (withSign z) (sym size-is)
+
+pub end-rule : {h : ℤ} (z : ℤ) → pos 0 <ℤ h → EndRule h z (endSlope unit h z)
+end-rule {h} z h₀ =
+    let e = toward-scaled {k = unit} (ltZ-yes tt) z h in
+    let n₀ : pos 0 ≤ℤ (unit *ℤ magnitude z) = search signs in
+    record { size = its-size z (unit *ℤ magnitude z) h n₀ h₀ e; sign = its-sign z (unit *ℤ magnitude z) h n₀ h₀ e }
+
+pub mean-rule : {h₁ h₂ : ℤ} (z₁ z₂ : ℤ) → pos 0 <ℤ h₁ → pos 0 <ℤ h₂ → MeanRule h₁ z₁ h₂ z₂ (innerSlope unit h₁ z₁ h₂ z₂)
+mean-rule {h₁} {h₂} z₁ z₂ p q =
+    record {
+      apart = λ l. sym (inner-level unit h₁ z₁ h₂ z₂ l);
+      size = λ t. its-size z₁ above below (<ℤ→≤ℤ (above₀ t)) (below₀ t) (sym (inner-steep unit h₁ z₁ h₂ z₂ t));
+      sign = λ t. its-sign z₁ above below (<ℤ→≤ℤ (above₀ t)) (below₀ t) (sym (inner-steep unit h₁ z₁ h₂ z₂ t));
+    }
+  where
+    above : ℤ
+    above = meanAbove unit h₁ (magnitude z₁) h₂ (magnitude z₂)
+
+    below : ℤ
+    below = meanBelow h₁ (magnitude z₁) h₂ (magnitude z₂)
+
+    sizes : pos 0 <ℤ (z₁ *ℤ z₂) → (pos 0 <ℤ magnitude z₁) × (pos 0 <ℤ magnitude z₂)
+    sizes t = (0<-magnitude z₁ z₂ t, 0<-magnitude z₂ z₁ (subst (λ (x : ℤ). pos 0 <ℤ x) (*ℤ-comm z₁ z₂) t))
+
+    above₀ : pos 0 <ℤ (z₁ *ℤ z₂) → pos 0 <ℤ above
+    above₀ t =
+        let u : pos 0 <ℤ unit = ltZ-yes tt in
+        let a = sizes t .0 in
+        let b = sizes t .1 in
+        search positives
+
+    below₀ : pos 0 <ℤ (z₁ *ℤ z₂) → pos 0 <ℤ below
+    below₀ t =
+        let a = sizes t .0 in
+        let b = sizes t .1 in
+        search positives depth 9 fits 9000
