@@ -178,6 +178,13 @@ def long_lines():
     yield b"#".ljust(LONGEST_LINE, b"=")
     yield b" " * LONGEST_LINE
     yield good
+    # Lines that go on once a reader's room is full. The first has a CR where the longest line may have its ending. Of the others one starts in
+    # the first half of a read of 65536 bytes, so that less room is left than is held.
+    yield good.ljust(LONGEST_LINE) + b"\r".ljust(LONGEST_LINE + 64)
+    yield good
+    for _ in range(2):
+        yield good.ljust(LONGEST_LINE * 3 // 2 - 1)
+        yield good
 
 
 def many_lines():

@@ -127,10 +127,13 @@ def unknown_commands():
 
 
 def longest_lines():
-    """2048 numbers behind zeros, in 65536 bytes. Then a good row in one byte more: it changes nothing."""
+    """2048 numbers behind zeros, in 65536 bytes, and 2048 of the longest. Then a good row in one byte more: it changes nothing."""
     numbers = [word.rjust(30, b"0") for word in (b"2147483647", b"1", b"0", b"2147483646")]
     line = b" ".join([b"values", *numbers * (LONGEST_ROW // 4)])
     yield line.ljust(LONGEST_LINE - 2) + b"\t \r"
+    yield b"show values"
+    # The longest answer that there is: each number takes eleven bytes.
+    yield row(b"values", [I32_MIN] * LONGEST_ROW)
     yield b"show values"
     yield b"knots 5 6 7".ljust(LONGEST_LINE + 1)
     yield b"show knots"
