@@ -1,0 +1,46 @@
+"""A few cases for the mutation run: they tell most of the changed programs in less than a second."""
+import re
+from collections import Counter
+from itertools import islice
+
+import cases
+import reference
+from tables import NAMES, row
+
+FIRST = 150  # lines of each group, of which the few cases are taken
+SHORT = 150  # bytes that such a case has, with its lists
+FEW = 2  # cases of one form
+AFTER = {b"build": b"show slopes\n", b"change": b"show knots\nshow values\nshow slopes\n"}  # what a case is followed by
+
+
+def few_cases():
+    """Of each command and each form of its answer the first lines, each with the lists that it needs before it."""
+    few, seen, lent = [cases.FIRST_EXAMPLE.read_bytes(), *unlike_pieces()], Counter(), {}
+    for line, lists, answer in answered_lines():
+        command = reference.words_of(line)[0]
+        form = command, re.sub("[0-9]+", "", answer)
+        if len(line) + sum(map(len, lists.values())) <= SHORT and seen[form] < FEW:
+            seen[form] += 1
+            few.extend(lists[name] for name in lists if lists[name] != lent.get(name))
+            few.append(line + b"\n" + AFTER.get(command, b""))
+            lent = {} if command in AFTER else lists
+    return b"".join(few)
+
+
+def unlike_pieces():
+    """A table whose pieces rise, rest and fall with unlike slopes, asked everywhere, and then changed and built."""
+    yield b"knots -3 4 9 12 17\nvalues 5 40 90 90 -3\nslopes 700 2000 0 0 -6000\ncheck\n"
+    yield from (b"%b %d\n" % (command, position) for position in range(-4, 19) for command in (b"at", b"drive"))
+    for line in (b"change 1 5 41\n", b"change 3 12 88\n", b"build\n"):
+        yield line + b"show slopes\n"
+
+
+def answered_lines():
+    """Lines of each group, with the lists before it and the answer, but for those that set or show a list."""
+    workbench = reference.Workbench()
+    for _, group in cases.GROUPS:
+        for line in islice(group(), FIRST):
+            lists = {name: row(name, numbers) + b"\n" for name, numbers in workbench.lists.items()}
+            answer = workbench.answer(line.removesuffix(b"\r"))
+            if answer is not None and len(line) <= SHORT and reference.words_of(line)[0] not in (b"show", *NAMES):
+                yield line, lists, answer

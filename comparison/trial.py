@@ -1,0 +1,149 @@
+"""Runs a changed program, unproved and in a copy, and says whether it was told from the right one.
+
+The kit's `rt try` runs a program on its interpreter and compiled in three ways. The interpreter gives up
+on as many cases as are stored, and compiling takes longest. So a few cases are tried on the interpreter
+alone, which tell most of the changed programs, and `rt try` runs the others on all the cases.
+"""
+import os
+import re
+import shutil
+import signal
+import subprocess
+import tempfile
+import threading
+from pathlib import Path
+
+import reference
+from few import few_cases
+from stored import ANSWERS, CASES, ROOT, read
+
+NOT_A_PROGRAM, TOLD, SURVIVES = "not a program", "told", "survives"
+NOT_LOWERED = "rattle-cases: the program is not lowered"
+GAVE_UP = "the run did not finish within"
+PATIENCE = 60  # seconds, more than ten times what the right program takes
+
+
+def the_kit():
+    """The folder of the kit whose rt is on the PATH."""
+    return Path(os.environ.get("RATTLE_HOME") or Path(shutil.which("rt")).resolve().parent.parent)
+
+
+def kit_without_compiler(folder):
+    """The kit, but for a compiler that makes an empty program of anything, so that the interpreter alone counts."""
+    tools = Path("on") / os.uname().machine / "toolchain"
+    clang = tools / "bin" / "clang"
+    own = (Path(), tools.parent.parent, tools.parent, tools, tools / "bin")
+    for inner in own:
+        (folder / inner).mkdir()
+        for entry in (the_kit() / inner).iterdir():
+            if inner / entry.name not in (*own, clang):
+                (folder / inner / entry.name).symlink_to(entry)
+    empty = folder / "empty.o"
+    words = ("--target=x86_64-unknown-linux-gnu", "-fPIE", "-x", "c", "-c", "-", "-o", empty)
+    subprocess.run([the_kit() / clang, *words], input=b"int main(void) { return 0; }", check=True)
+    (folder / clang).write_text(f"#!/bin/sh\nexec /bin/cp {empty} module.o\n")
+    (folder / clang).chmod(0o755)
+    return folder
+
+
+class Room:
+    """A copy of the code with cases to run it on, in a folder of its own."""
+
+    def __init__(self, folder, data, answers, kit, judged):
+        self.folder, self.kit, self.judged = folder, kit, judged
+        for source in (ROOT / "crates").glob("*/src"):
+            shutil.copytree(source, folder / source.relative_to(ROOT))
+        shutil.copy(ROOT / "crates.txt", folder)
+        (folder / CASES).write_bytes(data)
+        (folder / ANSWERS).write_bytes(answers)
+
+    def judge(self, mutant):
+        """What becomes of a mutant on the cases of this room. The code is as it was afterwards."""
+        changed = self.folder / mutant.path
+        changed.write_text(mutant.source)
+        try:
+            return self.run()
+        finally:
+            changed.write_text((ROOT / mutant.path).read_text())
+
+    def run(self):
+        """What becomes of the program as it stands in the room. One that doesn't end is told by that."""
+        trial = subprocess.Popen(
+            ["rt", "try", "negwafir"],
+            cwd=self.folder,
+            env={**os.environ, "RATTLE_HOME": str(self.kit)},
+            stdout=subprocess.PIPE,
+            stderr=subprocess.STDOUT,
+            start_new_session=True,
+        )
+        try:
+            said, _ = trial.communicate(timeout=PATIENCE)
+        except subprocess.TimeoutExpired:
+            return TOLD
+        finally:
+            end(trial)
+        return self.judged(verdicts_in(said.decode("utf-8", "replace")))
+
+
+def end(trial):
+    """Ends the trial and whatever it has started."""
+    try:
+        os.killpg(trial.pid, signal.SIGKILL)
+    except ProcessLookupError:
+        pass
+    trial.wait()
+
+
+def verdicts_in(said):
+    """What is said of each of the four ways to run a program, each with the lines that explain it."""
+    verdicts = [part for part in re.split(r"^(?=ok: |FAIL: |rattle-cases: |rt: )", said, flags=re.MULTILINE) if part]
+    if not verdicts or verdicts[0].startswith(("rattle-cases: ", "rt: ")) and not verdicts[0].startswith(NOT_LOWERED):
+        raise SystemExit(f"mutation: rt try fails:\n{said}")
+    return verdicts
+
+
+def by_the_interpreter(verdicts):
+    """The interpreter's verdict alone, on cases on which it comes to the end of the right program."""
+    if verdicts[0].startswith(NOT_LOWERED):
+        return NOT_A_PROGRAM
+    return SURVIVES if verdicts[0].startswith("ok: the interpreter") else TOLD
+
+
+def by_all(verdicts):
+    """All four verdicts. That the interpreter gave up, and had written nothing wrong, tells nothing."""
+    interpreted, *native = verdicts
+    if interpreted.startswith(NOT_LOWERED):
+        return NOT_A_PROGRAM
+    gave_up = GAVE_UP in interpreted and 'found ""' in interpreted
+    is_well = interpreted.startswith("ok: the interpreter") or gave_up
+    well = [verdict for verdict in native if verdict.startswith("ok: the native program")]
+    return SURVIVES if is_well and len(well) == 3 else TOLD
+
+
+class Rooms:
+    """Rooms for as many trials at a time as are wanted, each with one for the few cases and one for all."""
+
+    def __init__(self, jobs):
+        self.keeper = tempfile.TemporaryDirectory(prefix="mutation-")
+        folder, few = Path(self.keeper.name), few_cases()
+        kit, answers = kit_without_compiler(folder / "kit"), reference.answers_to(few)
+        self.free = [
+            (
+                Room(folder / f"few-{job}", few, answers, kit, by_the_interpreter),
+                Room(folder / f"all-{job}", read(CASES), read(ANSWERS), the_kit(), by_all),
+            )
+            for job in range(jobs)
+        ]
+        self.lock = threading.Lock()
+        if any(room.run() != SURVIVES for room in self.free[0]):
+            raise SystemExit("mutation: the code as it is does not give the stored answers, so nothing can be told")
+
+    def judge(self, mutant):
+        with self.lock:
+            few, whole = self.free.pop()
+        try:
+            verdict = few.judge(mutant)
+            return whole.judge(mutant) if verdict == SURVIVES else verdict
+        finally:
+            with self.lock:
+                self.free.append((few, whole))
