@@ -11,6 +11,7 @@ CASES = "crates/negwafir/stdin"
 ANSWERS = "crates/negwafir/stdout"
 EXAMPLE = "examples/first.txt"
 EXAMPLE_ANSWERS = "examples/first.out"
+CALLS_ANSWERS = "crates/calls/stdout"
 
 
 def read(name):
@@ -29,4 +30,5 @@ def make():
         (CASES, cases),
         (ANSWERS, run("reference.py", cases)),
         (EXAMPLE_ANSWERS, run("reference.py", read(EXAMPLE))),
+        (CALLS_ANSWERS, run("calls.py")),
     )

@@ -2,7 +2,8 @@
 
 The kit's `rt try` runs a program on its interpreter and compiled in three ways. The interpreter gives up
 on as many cases as are stored, and compiling takes longest. So a few cases are tried on the interpreter
-alone, which tell most of the changed programs, and `rt try` runs the others on all the cases.
+alone, which tell most of the changed programs; `rt try` runs the workbench with the others on all the
+cases, and with what is left the program that calls the libraries as the workbench does not.
 """
 import os
 import re
@@ -15,7 +16,7 @@ from pathlib import Path
 
 import reference
 from few import few_cases
-from stored import ANSWERS, CASES, ROOT, read
+from stored import ANSWERS, CALLS_ANSWERS, CASES, ROOT, read
 
 NOT_A_PROGRAM, TOLD, SURVIVES = "not a program", "told", "survives"
 NOT_LOWERED = "rattle-cases: the program is not lowered"
@@ -47,15 +48,15 @@ def kit_without_compiler(folder):
 
 
 class Room:
-    """A copy of the code with cases to run it on, in a folder of its own."""
+    """A copy of the code with cases to run a program on, in a folder of its own."""
 
-    def __init__(self, folder, data, answers, kit, judged):
-        self.folder, self.kit, self.judged = folder, kit, judged
+    def __init__(self, folder, program, files, kit, judged):
+        self.folder, self.program, self.kit, self.judged = folder, program, kit, judged
         for source in (ROOT / "crates").glob("*/src"):
             shutil.copytree(source, folder / source.relative_to(ROOT))
         shutil.copy(ROOT / "crates.txt", folder)
-        (folder / CASES).write_bytes(data)
-        (folder / ANSWERS).write_bytes(answers)
+        for name, data in files.items():
+            (folder / name).write_bytes(data)
 
     def judge(self, mutant):
         """What becomes of a mutant on the cases of this room. The code is as it was afterwards."""
@@ -69,7 +70,7 @@ class Room:
     def run(self):
         """What becomes of the program as it stands in the room. One that doesn't end is told by that."""
         trial = subprocess.Popen(
-            ["rt", "try", "negwafir"],
+            ["rt", "try", self.program],
             cwd=self.folder,
             env={**os.environ, "RATTLE_HOME": str(self.kit)},
             stdout=subprocess.PIPE,
@@ -121,7 +122,7 @@ def by_all(verdicts):
 
 
 class Rooms:
-    """Rooms for as many trials at a time as are wanted, each with one for the few cases and one for all."""
+    """Rooms for as many trials at a time as are wanted: each has one for the few cases, one for all, and one for the calls."""
 
     def __init__(self, jobs):
         self.keeper = tempfile.TemporaryDirectory(prefix="mutation-")
@@ -129,8 +130,9 @@ class Rooms:
         kit, answers = kit_without_compiler(folder / "kit"), reference.answers_to(few)
         self.free = [
             (
-                Room(folder / f"few-{job}", few, answers, kit, by_the_interpreter),
-                Room(folder / f"all-{job}", read(CASES), read(ANSWERS), the_kit(), by_all),
+                Room(folder / f"few-{job}", "negwafir", {CASES: few, ANSWERS: answers}, kit, by_the_interpreter),
+                Room(folder / f"all-{job}", "negwafir", {name: read(name) for name in (CASES, ANSWERS)}, the_kit(), by_all),
+                Room(folder / f"calls-{job}", "calls", {CALLS_ANSWERS: read(CALLS_ANSWERS)}, the_kit(), by_all),
             )
             for job in range(jobs)
         ]
@@ -140,10 +142,13 @@ class Rooms:
 
     def judge(self, mutant):
         with self.lock:
-            few, whole = self.free.pop()
+            rooms = self.free.pop()
         try:
-            verdict = few.judge(mutant)
-            return whole.judge(mutant) if verdict == SURVIVES else verdict
+            for room in rooms:
+                verdict = room.judge(mutant)
+                if verdict != SURVIVES:
+                    break
+            return verdict
         finally:
             with self.lock:
-                self.free.append((few, whole))
+                self.free.append(rooms)

@@ -1,0 +1,87 @@
+#!/usr/bin/env python3
+"""What the program `calls` must print: calls of the libraries that the workbench does not make or does not show.
+
+Each line is a function, what it was given, and what it answers.
+"""
+import re
+from itertools import chain
+
+from reference import (
+    build_refusal, check_refusal, drive_at, drive_refusal, evaluation_refusal, piece_at, value_at, words_of,
+)
+
+KNOTS, VALUES, SLOPES = (0, 2, 5), (7, 9, 9), (256, 0, 0)
+BEND = (9, 7, 7)  # values with which the first piece bends
+LEAST = -(2**63)
+
+
+def quotients():
+    for n, d in ((7, 1), (7, 0), (-7, 0), (7, -2), (-1, 4), (-9, 4), (LEAST, 1), (LEAST, -1)):
+        yield f"floor_div {n} {d} {n // d if d > 0 else 0}"
+
+
+def found(text, start, byte):
+    place = text.find(byte, start)
+    return max(len(text), start) if place < 0 else place
+
+
+def finds():
+    for text, start, byte in (("abc", 0, "c"), ("abc", 0, "x"), ("abc", 5, "a")):
+        yield f"find '{text}' {start} {ord(byte)} {found(text, start, byte)}"
+
+
+def next_word(line, start):
+    word = re.compile("[^ \t]+").search(line, start)
+    return f"{word.start()} {word.end()}" if word else "nothing"
+
+
+def next_words():
+    for line, start in (("ab", 0), (" ab c", 2), ("ab ", 2)):
+        yield f"next_word '{line}' {start} {next_word(line, start)}"
+    for start in (0, 1, 9):
+        yield f"count 'ab c' {start} {len(words_of(b'ab c'[start:]))}"
+
+
+def parts():
+    for start, end in ((1, 2), (1, 4), (1, 9), (2, 1), (5, 7)):
+        yield f"part 'abc' {start} {end} {'abc'[start:end]}"
+
+
+def reads():
+    for text in ("", "-"):
+        yield f"whole '{text}' {int(text) if re.fullmatch('-?[0-9]+', text) else 'no number'}"
+
+
+def buffers():
+    """Three bytes put behind so many of a buffer of four."""
+    for held in (0, 1, 2, 3, 4, 6):
+        joined = ("...."[:held] + "abc")[:4]
+        yield f"append '{joined + '....'[len(joined):]}' {held} {len(joined)}"
+
+
+def given(refused):
+    """A refusal's number and place, 0 and 0 where there is none."""
+    return "0 0" if refused is None else "{} {}".format(*re.findall("[0-9]+", refused)[:2])
+
+
+def at(values, position):
+    table = KNOTS, values, SLOPES
+    refused = evaluation_refusal(*table, position)
+    yield f"locate {position} {given(refused)} {0 if refused else piece_at(KNOTS, position)}"
+    yield f"evaluate {position} {given(refused)} {0 if refused else value_at(*table, position)} "
+    refused = drive_refusal(*table, position)
+    kind, level, *_ = ("dwell", 0) if refused else drive_at(*table, position)
+    told = "dwell at 0" if (kind, level) == ("dwell", 0) else kind
+    yield f"float_answer {position} {given(refused)} {told}"
+
+
+def tables():
+    yield f"points {given(build_refusal(KNOTS, VALUES, SLOPES))} "
+    yield f"check {given(check_refusal(KNOTS, VALUES, SLOPES))} "
+    for position in (0, 2, 5, 6, -1):
+        yield from at(VALUES, position)
+    yield from at(BEND, 3)
+
+
+for line in chain(quotients(), finds(), next_words(), parts(), reads(), buffers(), tables()):
+    print(line)
