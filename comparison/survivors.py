@@ -1,9 +1,9 @@
 """The explanations of survivors.txt.
 
 A paragraph has a line with a file and a function of it (`-` for a constant), then one or more changes, each as the line
-before (`- `) and after it (`+ `), and then why no case tells them: `Equal: ` where no caller can, `Unseen: ` where the
-workbench cannot, and a promise rules the change out. Where a function has the same line more than once, a number before
-the `-` says which of them is meant. Lines that begin with `#` are comments.
+before (`- `) and after it (`+ `), and then why no case tells them: `Equal: ` where no caller can, `Unseen: ` where no run
+is sure to show what is wrong, and the prover refuses it. Where a function has the same line more than once, a number
+before the `-` says which of them is meant. Lines that begin with `#` are comments.
 """
 import re
 from pathlib import Path
