@@ -204,11 +204,15 @@ fn driven(out: &mut [u8], held: usize, values: &[i32], position: i32) -> usize {
     }
 }
 
+// At 0 with its sign: −0 is no less than 0, but 1 over it is.
 fn dwell(out: &mut [u8], held: usize, level: f64) -> usize {
-    if level == 0.0 {
-        return words::append(out, held, b"dwell at 0\n");
+    if level != 0.0 {
+        return words::append(out, held, b"dwell\n");
     }
-    words::append(out, held, b"dwell\n")
+    if 1.0 / level < 0.0 {
+        return words::append(out, held, b"dwell at -0\n");
+    }
+    words::append(out, held, b"dwell at 0\n")
 }
 
 // ---- a line's words
