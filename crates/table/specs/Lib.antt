@@ -4,3 +4,5 @@ pub mod Changed
 pub mod Search
 pub mod Table
 pub mod Tested
+pub mod Fault
+pub mod Scan

@@ -2,7 +2,8 @@
 ghost use mathlib.Core.Path.{_≡_};
 ghost use Prim.Native.Nat.{_+_, _<_};
 ghost use lib.ListN.{length, set};
-ghost use Rattle.table.specs.Table.{entry, step};
+ghost use Rattle.table.specs.Table.{step};
+use crate::pieces;
 
 // A point's number, and the knot and the value that it shall have.
 pub struct Change {
@@ -11,21 +12,16 @@ pub struct Change {
     pub value: i32,
 }
 
-// Entry i of the list as it would be with `new` at the place `at`, if it has this place.
-fn entry(list: &[i32], at: usize, new: i32, i: usize) -> i32
-    requires { ⌜ i < length (now list) ⌝ }
-    ensures { λ r. ⌜ r ≡ entry (set (now (list .entry)) at new) i ⌝ }
-{
-    if i == at {
-        return new;
-    }
-    list[i]
-}
-
-// Piece i's width or rise then.
+// Piece i's width or rise of the list as it would be with `new` at the place `at`, if it has this place.
 pub(crate) fn step(list: &[i32], at: usize, new: i32, i: usize) -> i64
     requires { ⌜ i + 1 < length (now list) ⌝ }
     ensures { λ r. ⌜ r ≡ step (set (now (list .entry)) at new) i ⌝ }
 {
-    integers::difference(entry(list, at, new, i), entry(list, at, new, i + 1))
+    if i == at {
+        return integers::difference(new, list[i + 1]);
+    }
+    if i + 1 == at {
+        return integers::difference(list[i], new);
+    }
+    pieces::step(list, i)
 }

@@ -1,11 +1,13 @@
 // Why a table is refused: 1, 2, 3, 4 for its points, and 5 for its slopes, in this order; and why a change of a point is: 1, 2, 7, 3, 4.
 ghost use mathlib.Core.List.{[], _∷_};
+ghost use Prim.Native.Nat.{_-_};
 ghost use Rattle.rules.specs.Refusals.{Given};
 ghost use Rattle.table.specs.Table.{table, Holds, buildOrder, checkOrder};
 ghost use Rattle.table.specs.Changed.{HoldsAfter, changeOrder};
+ghost use Rattle.table.specs.Search.{Askable, numbers};
 use crate::changed::Change;
 use crate::search;
-use crate::search::Cause;
+use crate::search::Points;
 use rules::Refusal;
 
 // 1 and 2: the lists' lengths, and the number of points.
@@ -36,19 +38,30 @@ fn lengths(knots: &[i32], values: &[i32], slopes: &[i32]) -> Refusal
     }
 }
 
-// 1, 2, 3 and 4: what is asked of the points. The slopes are counted and not read.
-pub fn points(knots: &[i32], values: &[i32], slopes: &[i32]) -> Refusal
-    ensures { λ r. ⌜ Given (Holds (table (now (knots .entry)) (now (values .entry)) (now (slopes .entry)))) buildOrder (r .number) (r .place) ⌝ }
+// 1, 2 and the causes from 3 up to `last`.
+fn up_to(last: u32, knots: &[i32], values: &[i32], slopes: &[i32]) -> Refusal
+    requires { ⌜ Askable last ⌝ }
+    ensures { λ r. ⌜ Given (Holds (table (now (knots .entry)) (now (values .entry)) (now (slopes .entry)))) (1 ∷ 2 ∷ numbers 3 (last - 2)) (r .number) (r .place) ⌝ }
 {
     let counted = lengths(knots, values, slopes);
     if counted.number != rules::DONE {
         return counted;
     }
-    let width = search::first(Cause::Width, knots, values, slopes);
-    if width.number != rules::DONE {
-        return width;
-    }
-    search::first(Cause::Rise, knots, values, slopes)
+    search::first(Points::Now, last, knots, values, slopes)
+}
+
+// 1, 2, 3 and 4: what is asked of the points. The slopes are counted and not read.
+pub fn points(knots: &[i32], values: &[i32], slopes: &[i32]) -> Refusal
+    ensures { λ r. ⌜ Given (Holds (table (now (knots .entry)) (now (values .entry)) (now (slopes .entry)))) buildOrder (r .number) (r .place) ⌝ }
+{
+    up_to(rules::RISE, knots, values, slopes)
+}
+
+// 1, 2, 3, 4 and 5: the table check, of any proposed slopes.
+pub fn check(knots: &[i32], values: &[i32], slopes: &[i32]) -> Refusal
+    ensures { λ r. ⌜ Given (Holds (table (now (knots .entry)) (now (values .entry)) (now (slopes .entry)))) checkOrder (r .number) (r .place) ⌝ }
+{
+    up_to(rules::BEND, knots, values, slopes)
 }
 
 // 1, 2, 7, 3 and 4: what is asked of a change, 3 and 4 of the points as they would be after it. The slopes are counted and not read.
@@ -65,20 +78,5 @@ pub fn changed_points(knots: &[i32], values: &[i32], slopes: &[i32], change: Cha
             place: 0,
         };
     }
-    let width = search::first(Cause::WidthAfter(change), knots, values, slopes);
-    if width.number != rules::DONE {
-        return width;
-    }
-    search::first(Cause::RiseAfter(change), knots, values, slopes)
-}
-
-// 1, 2, 3, 4 and 5: the table check, of any proposed slopes.
-pub fn check(knots: &[i32], values: &[i32], slopes: &[i32]) -> Refusal
-    ensures { λ r. ⌜ Given (Holds (table (now (knots .entry)) (now (values .entry)) (now (slopes .entry)))) checkOrder (r .number) (r .place) ⌝ }
-{
-    let asked = points(knots, values, slopes);
-    if asked.number != rules::DONE {
-        return asked;
-    }
-    search::first(Cause::Bend, knots, values, slopes)
+    search::first(Points::After(change), rules::RISE, knots, values, slopes)
 }

@@ -45,32 +45,16 @@ abbrev then : tie.Else2 → Table
 then c = let s = start c .args in changedBy (s .change) (table (s .knots .now) (s .values .now) (s .slopes .now))
 
 first-requires : tie.Need-first-requires
-first-requires c κs = (equally-long (c .before .before), tt)
+first-requires c κs = (record { low = omega arith; high = omega arith }, equally-long (c .before .before))
 
-widths : (c : tie.After-first) → Given (Holds (then (c .before))) (3 ∷ []) (c .first .result .number) (c .first .result .place)
-widths c = c .first .ensures
-
-first-requires-2 : tie.Need-first-requires-2
-first-requires-2 c κs = (equally-long (c .before .before .before .before .before), tt)
-
-rises : (c : tie.After-first2) → Given (Holds (then (c .before .before .before .before))) (4 ∷ []) (c .first2 .result .number) (c .first2 .result .place)
-rises c = c .first2 .ensures
+steps : (c : tie.After-first) → Given (Holds (then (c .before))) (3 ∷ 4 ∷ []) (c .first .result .number) (c .first .result .place)
+steps c = c .first .ensures
 
 returns-3 : tie.Need-returns-3
 returns-3 c =
-    let e = c .before .before .before in
+    let e = c .before in
     let d = e .before .before in
-    went-on (d .if1 .left) (as-counted _ _ (d .before .before .lengths .ensures))
-    (went-on refl (taken-there _ _ (is-there e)) (as-stepped _ _ (stopped (4 ∷ []) (c .if3 .taken) (widths (c .before .before)))))
-
-returns-4 : tie.Need-returns-4
-returns-4 c =
-    let e = c .before .before .before .before in
-    let d = e .before .before in
-    went-on (d .if1 .left) (as-counted _ _ (d .before .before .lengths .ensures))
-    (went-on refl (taken-there _ _ (is-there e)) (as-stepped _ _ (went-on (c .before .if3 .left) (widths (c .before .before .before)) (rises c))))
+    went-on (d .if1 .left) (as-counted _ _ (d .before .before .lengths .ensures)) (went-on refl (taken-there _ _ (is-there e)) (as-stepped _ _ (steps c)))
 
 pub changed-points-spec : {M : Type 1} → statement M
-changed-points-spec =
-    tie.close
-    (tie.spec lengths-requires returns returns-2 first-requires returns-3 first-requires-2 returns-4)
+changed-points-spec = tie.close (tie.spec lengths-requires returns returns-2 first-requires returns-3)

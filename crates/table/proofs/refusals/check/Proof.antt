@@ -1,24 +1,19 @@
--- `table::check` meets its contract: bends are asked for where the points have passed.
+-- `table::check` meets its contract: its order goes up to 5.
 use mathlib.Core.List.{[], _∷_}
-use borrow.Author.Needs.{needs}
-use Rattle.rules.specs.Order.{stopped, went-on, clear}
-use Rattle.table.specs.Accepted.{same-lengths, accepted-points}
+use native.Mathlib.Omega.{arith}
+use Rattle.rules.specs.Refusals.{Given}
+use Rattle.table.specs.Table.{table, Holds}
 use Rattle.table.proofs.refusals.check.Statement.{statement}
 use Rattle.table.proofs.refusals.check.Tie as tie
 
-points-requires : tie.Need-points-requires
-points-requires c κs = search needs
+up-to-requires : tie.Need-up-to-requires
+up-to-requires c κs = record { low = omega arith; high = omega arith }
+
+asked : (c : tie.After-up-to) → let s = c .before .args in Given (Holds (table (s .knots .now) (s .values .now) (s .slopes .now))) (1 ∷ 2 ∷ 3 ∷ 4 ∷ 5 ∷ []) (c .up-to .result .number) (c .up-to .result .place)
+asked c = c .up-to .ensures
 
 returns : tie.Need-returns
-returns c = stopped (5 ∷ []) (c .if1 .taken) (c .before .before .points .ensures)
-
-returns-2 : tie.Need-returns-2
-returns-2 c = went-on (c .before .if1 .left) (c .before .before .before .points .ensures) (c .first .ensures)
-
-first-requires : tie.Need-first-requires
-first-requires c κs =
-    let given = c .before .before .points .ensures in
-    (same-lengths (clear (c .if1 .left) given), accepted-points (c .if1 .left) given)
+returns c = asked c
 
 pub check-spec : {M : Type 1} → statement M
-check-spec = tie.close (tie.spec points-requires returns first-requires returns-2)
+check-spec = tie.close (tie.spec up-to-requires returns)

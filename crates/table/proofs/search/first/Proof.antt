@@ -1,56 +1,81 @@
--- `table::search::first` meets its contract: up to where the loop stands every piece is sound.
-use Prim.Native.Nat.{ℕ, _-_, _≤_, _<_}
+-- `table::search::first` meets its contract: what was found stands, but for what comes before it further on.
+use Prim.Native.Nat.{ℕ, _+_, _-_, _<_}
 use native.Mathlib.Omega.{arith}
 use lib.ListN.{length}
 use borrow.Author.Needs.{needs}
-use borrow.Author.Count.{below-none, below-more}
-use borrow.Author.Tests.{not-true, not-false}
-use Rattle.integers.specs.Decided.{told, denied}
-use Rattle.table.specs.Table.{table}
-use Rattle.table.specs.Search.{Sound, none-found, found-here}
+use Rattle.table.specs.Table.{table, Holds}
+use Rattle.table.specs.Search.{asked, Scanned}
+use Rattle.table.specs.Fault.{asked-there}
+use Rattle.table.specs.Scan.{Standing, begins, goes-on, settles, none-before, none-behind, standing-there, standing-within, found-within}
 use Rattle.table.proofs.search.first.Statement.{statement}
 use Rattle.table.proofs.search.first.Tie as tie
 
 abbrev Inv-loop : tie.InvT-loop
-Inv-loop cause knots values slopes i₀ i = (i ≤ length knots) × ((j : ℕ) → j < i → Sound cause (table knots values slopes) j)
+Inv-loop points last knots values slopes number₀ place₀ number place =
+    Standing (Holds (asked points (table knots values slopes))) last number place
 
 abbrev μ-loop : tie.MeasureT-loop
-μ-loop cause knots values slopes i₀ i = length knots - i
+μ-loop points last knots values slopes number₀ place₀ number place = number
+
+-- the causes of the points that are asked
+abbrev cause : tie.Start Inv-loop μ-loop → ℕ → ℕ → Type 0
+cause s = Holds (asked (s .args .points) (table (s .args .knots .now) (s .args .values .now) (s .args .slopes .now)))
+
+scan-requires : tie.Need-scan-requires Inv-loop μ-loop
+scan-requires c κs = (c .pre .0, (c .pre .1, omega arith))
 
 loop-holds : tie.Need-loop-holds Inv-loop μ-loop
-loop-holds c = (omega arith, below-none _)
+loop-holds c = begins (cause (c .before)) (c .scan .ensures)
 
-sub-if1 : tie.Need-sub-if1 Inv-loop μ-loop
-sub-if1 c = search needs
+-- ---- once more, behind a piece of which 4 or 5 holds
 
-returns : tie.Need-returns Inv-loop μ-loop
-returns c =
-    let s = c .before .before .args in
-    none-found (s .cause) (table (s .knots .now) (s .values .now) (s .slopes .now)) (c .before .loop .inv .1) (c .if1 .taken)
+above-3 : (c : tie.In-loop Inv-loop μ-loop) → 3 < c .before .loop .number
+above-3 c = omega (arith, c .loop-test .taken)
 
-is-sound-requires : tie.Need-is-sound-requires Inv-loop μ-loop
-is-sound-requires c κs = search needs
+there : (c : tie.In-loop Inv-loop μ-loop) → c .before .loop .place + 1 < length (c .before .before .before .args .knots .now)
+there c =
+    let start = c .before .before .before in
+    let s = start .args in
+    standing-there (cause start) (above-3 c) (c .before .loop .inv) _ (asked-there (s .points) (table (s .knots .now) (s .values .now) (s .slopes .now)))
 
-add-i : tie.Need-add-i Inv-loop μ-loop
-add-i c = search needs
+sub-scan : tie.Need-sub-scan Inv-loop μ-loop
+sub-scan c = search needs
+
+add-scan : tie.Need-add-scan Inv-loop μ-loop
+add-scan c = let l = there c in search needs
+
+scan-requires-2 : tie.Need-scan-requires-2 Inv-loop μ-loop
+scan-requires-2 c κs =
+    let s = c .before .before .before in
+    let inv = c .before .loop .inv in
+    (record { low = omega (arith, above-3 c); high = omega (arith, standing-within (cause s) inv, s .pre .0 .high) }, (s .pre .1, omega (arith, there c)))
+
+-- what is asked there: what comes before the number that stands, from the next piece on
+behind : (c : tie.After-scan2 Inv-loop μ-loop) → let w = c .before in Scanned (cause (w .before .before .before)) (w .before .loop .number - 1) (w .before .loop .place + 1) (c .scan2 .result .number) (c .scan2 .result .place)
+behind c = c .scan2 .ensures
 
 loop-less : tie.Need-loop-less Inv-loop μ-loop
-loop-less c = search needs
+loop-less c =
+    let w = c .before .before .before in
+    omega (arith, above-3 w, found-within (cause (w .before .before .before)) (behind (c .before .before)))
 
 loop-again : tie.Need-loop-again Inv-loop μ-loop
 loop-again c =
-    let l = c .before .before .if1 .left in
-    let inv = c .before .before .before .loop .inv in
-    (omega arith, below-more _ _ (inv .1) (told (c .before .is-sound .ensures) (not-false _ (c .if2 .left))))
+    let w = c .before .before .before in
+    goes-on (cause (w .before .before .before)) (above-3 w) (c .if1 .left) (w .before .loop .inv) (behind (c .before .before))
 
-number-requires : tie.Need-number-requires Inv-loop μ-loop
-number-requires c κs = search needs
+-- ---- the answer
+
+returns : tie.Need-returns Inv-loop μ-loop
+returns c =
+    let s = c .before .before .before in
+    settles (cause s) (s .pre .0 .low) (c .before .loop .inv) (none-before (cause s) (λ (l : 3 < c .before .loop .number). omega (arith, l, c .loop-test .left)))
 
 returns-2 : tie.Need-returns-2 Inv-loop μ-loop
 returns-2 c =
-    let s = c .before .before .before .before .before .args in
-    found-here (s .cause) (table (s .knots .now) (s .values .now) (s .slopes .now)) (c .before .before .before .before .loop .inv .1) (c .number .ensures)
-    (omega (arith, c .before .before .before .if1 .left)) (denied (c .before .before .is-sound .ensures) (not-true _ (c .before .if2 .taken)))
+    let w = c .before .before .before in
+    let s = w .before .before .before in
+    settles (cause s) (s .pre .0 .low) (w .before .loop .inv) (none-behind (cause s) (above-3 w) (c .if1 .taken) (w .before .loop .inv) (behind (c .before .before)))
 
 pub first-spec : {M : Type 1} → statement M
 first-spec =
@@ -58,12 +83,12 @@ first-spec =
     (tie.spec
     Inv-loop
     μ-loop
+    scan-requires
     loop-holds
-    sub-if1
-    returns
-    is-sound-requires
-    add-i
+    sub-scan
+    add-scan
+    scan-requires-2
     loop-less
     loop-again
-    number-requires
+    returns
     returns-2)
