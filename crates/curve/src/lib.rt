@@ -15,6 +15,7 @@ use position::Spot;
 use rules::Refusal;
 
 // The value at a position, or the refusal and the value 0.
+#[repr(C)]
 pub struct Value {
     pub refusal: Refusal,
     pub value: i32,

@@ -10,6 +10,7 @@ mod walk;
 use rules::Refusal;
 
 // A position's piece, or the refusal and piece 0.
+#[repr(C)]
 pub struct Place {
     pub refusal: Refusal,
     pub piece: usize,

@@ -3,6 +3,7 @@ ghost use Rattle.integers.specs.Promise.{Decided};
 ghost use Rattle.rules.specs.Limits.{CountWithin, WidthWithin, RiseWithin};
 
 // A refusal: its number in the exact rules, and the place that it names. Both are 0 where nothing is refused.
+#[repr(C)]
 pub struct Refusal {
     pub number: u32,
     pub place: usize,

@@ -6,6 +6,7 @@ ghost use Rattle.table.specs.Table.{step};
 use crate::pieces;
 
 // A point's number, and the knot and the value that it shall have.
+#[repr(C)]
 pub struct Change {
     pub point: usize,
     pub knot: i32,
