@@ -45,6 +45,13 @@ use Rattle.drive.specs.Drive.{toldOf, Driving}
 use Rattle.drive.specs.Determined.{one-driving, one-case}
 use Rattle.change.specs.Change.{Changed}
 use Rattle.change.specs.Determined.{one-change}
+use Rattle.exports.specs.declared.answers.Judgement.{Judgement}
+use Rattle.exports.specs.declared.answers.Told.{Told}
+use Rattle.exports.specs.declared.text.Span.{Span}
+use Rattle.exports.specs.declared.text.Read.{Read}
+use Rattle.exports.specs.declared.text.Read32.{Read32}
+use Rattle.exports.specs.Cases.{JudgedAs, DrivenAs, WordAs, NumberAs, Number32As}
+use Rattle.exports.specs.Determined.{one-judgement, one-telling, one-span, one-read, one-read32}
 
 abbrev Determined : {A : Type 0} → (A → Type 0) → Type 0
 Determined {A} Promise = (r s : A) → Promise r → Promise s → r ≡ s
@@ -187,3 +194,87 @@ float-answer t x r s p q =
 
 pub point : (c : Change) (t : Table) → Determined (λ (r : Table × Refusal). Changed c t (r .0) (r .1 .number) (r .1 .place))
 point c t r s p q = let e = one-change p q in λ i. (e .2 i, record { number = e .0 i; place = e .1 i })
+
+-- ---- exports: what the function below promises is promised by its export too
+
+pub negwafir-difference : (left right : ℤ) → Determined (λ (r : ℤ). r ≡ right -ℤ left)
+negwafir-difference = difference
+
+pub negwafir-between : (low x high : ℤ) → Determined (Decided (Between low x high))
+negwafir-between = between
+
+pub negwafir-floor-div : (n d : ℤ) → Determined (Quotient n d)
+negwafir-floor-div = floor-div
+
+pub negwafir-find : (bytes : List ℕ) (from byte : ℕ) → Determined (λ (r : ℕ). r ≡ firstOf byte bytes from)
+negwafir-find = find
+
+pub negwafir-count-words : (line : List ℕ) (from : ℕ) → Determined (λ (r : ℕ). r ≡ length (wordsOf (drop from line)))
+negwafir-count-words = count
+
+pub negwafir-append : (into : List ℕ) (held : ℕ) (more : List ℕ) → Determined (λ (r : List ℕ × ℕ). Appended into held more (r .0) (r .1))
+negwafir-append = append
+
+pub negwafir-append-natural : (into : List ℕ) (held n : ℕ) → Determined (λ (r : List ℕ × ℕ). Appended into held (decimalOf n) (r .0) (r .1))
+negwafir-append-natural = append-natural
+
+pub negwafir-append-whole : (into : List ℕ) (held : ℕ) (n : ℤ) → Determined (λ (r : List ℕ × ℕ). Appended into held (textOf n) (r .0) (r .1))
+negwafir-append-whole = append-whole
+
+pub negwafir-append-whole32 : (into : List ℕ) (held : ℕ) (n : ℤ) → Determined (λ (r : List ℕ × ℕ). Appended into held (textOf n) (r .0) (r .1))
+negwafir-append-whole32 = append-whole32
+
+pub negwafir-count-within : (n : ℕ) → Determined (Decided (CountWithin n))
+negwafir-count-within = count-within
+
+pub negwafir-width-within : (h : ℤ) → Determined (Decided (WidthWithin h))
+negwafir-width-within = width-within
+
+pub negwafir-rise-within : (z : ℤ) → Determined (Decided (RiseWithin z))
+negwafir-rise-within = rise-within
+
+pub negwafir-points : (t : Table) → Determined (λ (r : Refusal). Given (Holds t) buildOrder (r .number) (r .place))
+negwafir-points = points
+
+pub negwafir-check : (t : Table) → Determined (λ (r : Refusal). Given (Holds t) checkOrder (r .number) (r .place))
+negwafir-check = check
+
+pub negwafir-changed-points : (c : Change) (t : Table) → Determined (λ (r : Refusal). Given (HoldsAfter c t) changeOrder (r .number) (r .place))
+negwafir-changed-points = changed-points
+
+pub negwafir-build : (knots values slopes : List ℤ) → Determined (λ (r : List ℤ × Refusal). Built knots values slopes (r .0) (r .1 .number) (r .1 .place))
+negwafir-build = build
+
+pub negwafir-locate : (t : Table) (x : ℤ) → Determined (λ (r : Place). Located t x (r .refusal .number) (r .refusal .place) (r .piece))
+negwafir-locate = locate
+
+pub negwafir-evaluate : (t : Table) (x : ℤ) → Determined (λ (r : Value). Evaluated t x (r .refusal .number) (r .refusal .place) (r .value))
+negwafir-evaluate = evaluate
+
+pub negwafir-change-point : (c : Change) (t : Table) → Determined (λ (r : Table × Refusal). Changed c t (r .0) (r .1 .number) (r .1 .place))
+negwafir-change-point = point
+
+-- of a part of a line its length is returned
+
+pub negwafir-content : (line : List ℕ) → Determined (λ (r : ℕ). r ≡ length (withoutReturn line))
+negwafir-content line = equal
+
+pub negwafir-part : (line : List ℕ) (start end : ℕ) → Determined (λ (r : ℕ). r ≡ length (partOf line start end))
+negwafir-part line start end = equal
+
+-- and for an enum a record
+
+pub negwafir-next-word : (line : List ℕ) (from : ℕ) → Determined (λ (r : Span). WordAs (nextWord line from) (r .found) (r .start) (r .end))
+negwafir-next-word line from r s = one-span
+
+pub negwafir-whole : (text : List ℕ) → Determined (λ (r : Read). NumberAs (numberOf text) (r .kind) (r .value))
+negwafir-whole text r s = one-read
+
+pub negwafir-whole32 : (text : List ℕ) → Determined (λ (r : Read32). Number32As (number32Of text) (r .kind) (r .value))
+negwafir-whole32 text r s = one-read32
+
+pub negwafir-judge : (h z m n : ℤ) → Determined (λ (r : Judgement). JudgedAs h z m n (r .refusal .number) (r .refusal .place) (r .verdict))
+negwafir-judge h z m n r s = one-judgement
+
+pub negwafir-float-answer : (t : Table) (x : ℤ) → Determined (λ (r : Told). DrivenAs t x (r .refusal .number) (r .refusal .place) (r .kind) (r .left) (r .numerator) (r .denominator))
+negwafir-float-answer t x r s = one-telling

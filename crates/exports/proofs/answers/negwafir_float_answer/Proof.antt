@@ -35,7 +35,7 @@ said : (c : tie.After-float-answer)
 said c = rw (toZ-ofZ (c .before .fits .position)) at (c .float-answer .ensures)
 
 returns : tie.Need-returns
-returns c = dwells (rw (c .before .answer .given .1) at (said (c .before .before .before .before))) zero-in-code one-in-code
+returns c = dwells {level = c .before .answer .given .0 .0} (rw (c .before .answer .given .1) at (said (c .before .before .before .before))) zero-in-code one-in-code
 
 returns-2 : tie.Need-returns-2
 returns-2 c = moves (rw (c .before .answer2 .given .1) at (said (c .before .before .before .before)))

@@ -1,7 +1,7 @@
 -- `negwafir_judge` meets its contract: each case of the verdict, by its number.
 use borrow.Author.Needs.{needs}
 use mir.Facts.{toZ-ofZ}
-use Rattle.piece.specs.Promise.{Judged, answerOf}
+use Rattle.piece.specs.Promise.{rising, falling, flat, bends, none, Judged, answerOf}
 use Rattle.exports.specs.Cases.{judged}
 use Rattle.exports.proofs.answers.negwafir_judge.Statement.{statement}
 use Rattle.exports.proofs.answers.negwafir_judge.Tie as tie
@@ -29,19 +29,19 @@ said : (c : tie.After-judge) → let s = c .before .args in Judged (s .h) (s .z)
 said c = let s = c .before .fits in rw (toZ-ofZ (s .h), toZ-ofZ (s .z), toZ-ofZ (s .m), toZ-ofZ (s .n)) at (c .judge .ensures)
 
 returns : tie.Need-returns
-returns c = judged (rw (c .enum-told .given .1) at (said (c .before .before)))
+returns c = judged {w = rising} (rw (c .enum-told .given .1) at (said (c .before .before)))
 
 returns-2 : tie.Need-returns-2
-returns-2 c = judged (rw (c .enum-told2 .given .1) at (said (c .before .before)))
+returns-2 c = judged {w = falling} (rw (c .enum-told2 .given .1) at (said (c .before .before)))
 
 returns-3 : tie.Need-returns-3
-returns-3 c = judged (rw (c .enum-told3 .given .1) at (said (c .before .before)))
+returns-3 c = judged {w = flat} (rw (c .enum-told3 .given .1) at (said (c .before .before)))
 
 returns-4 : tie.Need-returns-4
-returns-4 c = judged (rw (c .enum-told4 .given .1) at (said (c .before .before)))
+returns-4 c = judged {w = bends} (rw (c .enum-told4 .given .1) at (said (c .before .before)))
 
 returns-5 : tie.Need-returns-5
-returns-5 c = judged (rw (c .before .refusal .given .1) at (said (c .before .before .before)))
+returns-5 c = judged {w = none} (rw (c .before .refusal .given .1) at (said (c .before .before .before)))
 
 pub negwafir-judge-spec : {M : Type 1} → statement M
 negwafir-judge-spec =
