@@ -12,6 +12,7 @@ ANSWERS = "crates/negwafir/stdout"
 EXAMPLE = "examples/first.txt"
 EXAMPLE_ANSWERS = "examples/first.out"
 CALLS_ANSWERS = "crates/calls/stdout"
+CONTROLLER_ANSWERS = "examples/controller.out"
 
 
 def read(name):
@@ -31,4 +32,5 @@ def make():
         (ANSWERS, run("reference.py", cases)),
         (EXAMPLE_ANSWERS, run("reference.py", read(EXAMPLE))),
         (CALLS_ANSWERS, run("calls.py")),
+        (CONTROLLER_ANSWERS, run("controller.py")),
     )
