@@ -1,0 +1,319 @@
+/* Calls with lists of every length, all combinations of them, and with tables that are good, extreme or faulty in some places. */
+#include "bad_callers.h"
+#include "guarded.h"
+#include "rules.h"
+#include "tally.h"
+
+#include <inttypes.h>
+#include <stdio.h>
+
+static guarded knots, values, slopes;
+static arrangement where;
+static const char *what; /* what the lists hold */
+
+#define LISTS knots.list, knots.length, values.list, values.length, slopes.list, slopes.length
+
+static table lists(void) {
+    table t = {knots.list, values.list, slopes.list, knots.length, values.length, slopes.length};
+    return t;
+}
+
+/* ---- one call: what it answers, and what it leaves in each list and around it */
+
+static void say(const char *function, const char *given) {
+    calling("%s of %zu, %zu and %zu entries, %s, the guard page %s%s", function, knots.length, values.length, slopes.length, what,
+            guarded_word(where), given);
+}
+
+static void say_at(const char *function, int32_t position) {
+    char given[64];
+    snprintf(given, sizeof given, ", at %" PRId32, position);
+    say(function, given);
+}
+
+static void say_change(const char *function, negwafir_change change) {
+    char given[96];
+    snprintf(given, sizeof given, ", point %zu to %" PRId32 ", %" PRId32, change.point, change.knot, change.value);
+    say(function, given);
+}
+
+static void lists_as_expected(void) {
+    if (!guarded_same(&knots))
+        wrong("the knots, or the memory around them, are not as they have to be");
+    if (!guarded_same(&values))
+        wrong("the values, or the memory around them, are not as they have to be");
+    if (!guarded_same(&slopes))
+        wrong("the slopes, or the memory around them, are not as they have to be");
+}
+
+static void expect_slopes(size_t from, size_t to) {
+    int32_t *expected = guarded_expected(&slopes);
+    size_t i;
+    for (i = from; i < to; i++)
+        expected[i] = slope_at(guarded_expected(&knots), guarded_expected(&values), slopes.length, i);
+}
+
+static void try_points(void) {
+    say("negwafir_points", "");
+    same_refusal(negwafir_points(LISTS), build_refusal(lists()));
+    lists_as_expected();
+}
+
+static void try_check(void) {
+    say("negwafir_check", "");
+    same_refusal(negwafir_check(LISTS), check_refusal(lists()));
+    lists_as_expected();
+}
+
+static void try_build(void) {
+    negwafir_refusal expected = build_refusal(lists());
+    if (expected.number == 0)
+        expect_slopes(0, slopes.length);
+    say("negwafir_build", "");
+    same_refusal(negwafir_build(LISTS), expected);
+    lists_as_expected();
+}
+
+static void try_change(negwafir_change change) {
+    negwafir_refusal expected = change_refusal(lists(), change);
+    say_change("negwafir_changed_points", change);
+    same_refusal(negwafir_changed_points(LISTS, change), expected);
+    lists_as_expected();
+    if (expected.number == 0) {
+        size_t from = change.point == 0 ? 0 : change.point - 1;
+        size_t to = change.point + 1 == slopes.length ? slopes.length : change.point + 2;
+        ((int32_t *)guarded_expected(&knots))[change.point] = change.knot;
+        ((int32_t *)guarded_expected(&values))[change.point] = change.value;
+        expect_slopes(from, to);
+    }
+    say_change("negwafir_change_point", change);
+    same_refusal(negwafir_change_point(LISTS, change), expected);
+    lists_as_expected();
+}
+
+static void try_evaluate(int32_t position) {
+    negwafir_refusal expected = evaluation_refusal(lists(), position);
+    negwafir_value at;
+    say_at("negwafir_evaluate", position);
+    at = negwafir_evaluate(LISTS, position);
+    same_refusal(at.refusal, expected);
+    same_number("the value", at.value, expected.number ? 0 : value_at(lists(), position));
+    lists_as_expected();
+}
+
+static void try_locate(int32_t position) {
+    negwafir_refusal expected = evaluation_refusal(lists(), position);
+    negwafir_place place;
+    say_at("negwafir_locate", position);
+    place = negwafir_locate(LISTS, position);
+    same_refusal(place.refusal, expected);
+    same_number("the piece", (int64_t)place.piece, expected.number ? 0 : (int64_t)piece_at(lists(), position));
+    lists_as_expected();
+}
+
+static void try_float_answer(int32_t position) {
+    static const negwafir_told resting = {{0, 0}, NEGWAFIR_DWELL, 0, 0, 1};
+    negwafir_refusal refusal = float_refusal(lists(), position);
+    negwafir_told expected = refusal.number ? resting : told_at(lists(), position);
+    negwafir_told told;
+    say_at("negwafir_float_answer", position);
+    told = negwafir_float_answer(LISTS, position);
+    same_refusal(told.refusal, refusal);
+    same_number("the kind", told.kind, expected.kind);
+    same_float("the left value", told.left, expected.left);
+    same_float("the numerator", told.numerator, expected.numerator);
+    same_float("the denominator", told.denominator, expected.denominator);
+    lists_as_expected();
+    met(A_TOLD, told.kind);
+}
+
+static void try_at(int32_t position) {
+    try_evaluate(position);
+    try_locate(position);
+    try_float_answer(position);
+}
+
+/* ---- lengths: every combination of them over the three lists */
+
+static const int32_t EXTREMES[] = {
+    INT32_MIN, INT32_MIN + 1, -1048577, -1048576, -1025, -1024, -1, 0, 1, 1023, 1024, 1025, 1048575, 1048576, 1048577, INT32_MAX - 1, INT32_MAX,
+};
+
+static int32_t extreme(void) {
+    return EXTREMES[dice(COUNT(EXTREMES))];
+}
+
+static void fill(guarded *g, bool good, int32_t step, int32_t turn) {
+    int32_t *list = g->list;
+    size_t i;
+    for (i = 0; i < g->length; i++)
+        list[i] = good ? (int32_t)i * step + (i % 3 == 0 ? turn : 0) : extreme();
+    guarded_keep(g);
+}
+
+static void try_all(void) {
+    negwafir_change first = {0, extreme(), extreme()}, far = {SIZE_MAX, 0, 0}, last = {knots.length - 1, 3 * (int32_t)knots.length - 2, -5};
+    try_points();
+    try_check();
+    try_at(6);
+    try_at(extreme());
+    try_change(first);
+    try_change(far);
+    try_change(last);
+    try_build();
+    try_at(6);
+}
+
+static void try_lengths(bool good) {
+    size_t k, v, s;
+    what = good ? "a good table" : "extreme numbers";
+    for (k = 0; k < SHAPES; k++)
+        for (v = 0; v < SHAPES; v++)
+            for (s = 0; s < SHAPES; s++) {
+                guarded_lend_shape(&knots, k, sizeof(int32_t), where);
+                guarded_lend_shape(&values, v, sizeof(int32_t), where);
+                guarded_lend_shape(&slopes, s, sizeof(int32_t), where);
+                fill(&knots, good, 3, 0);
+                fill(&values, good, 1, 5);
+                fill(&slopes, good, 0, 0);
+                try_all();
+            }
+}
+
+/* ---- tables of equal lists, by their widths and rises, with faults put into them */
+
+static int64_t width(uint64_t style) {
+    return style == 0 ? 1 : style == 1 ? 1024 : style == 2 ? 1 + (int64_t)dice(1024) : 1 + (int64_t)dice(8);
+}
+
+/* Some lie at the limit of the float answer for their width. */
+static int64_t rise(uint64_t style, int64_t h) {
+    int64_t edge = ((int64_t)1 << 40) / (h * h * h) - 1 + (int64_t)dice(3);
+    int64_t most = 1048576;
+    int64_t z = style == 0 ? most : style == 1 ? (int64_t)dice(2) : style == 2 ? (int64_t)dice(12) : style == 3 ? (int64_t)dice(1048577) : edge;
+    z = z > most ? most : z;
+    return dice(3) == 0 ? -z : z;
+}
+
+/* A list of which the entry `at` is `number`, and the others follow by their steps. */
+static void lay(guarded *g, const int64_t *steps, size_t at, int64_t number) {
+    int32_t *list = g->list;
+    int64_t x = number;
+    size_t i;
+    for (i = at; i < g->length; i++) {
+        list[i] = (int32_t)x;
+        x += i + 1 < g->length ? steps[i] : 0;
+    }
+    for (i = at, x = number; i > 0; i--) {
+        x -= steps[i - 1];
+        list[i - 1] = (int32_t)x;
+    }
+    guarded_keep(g);
+}
+
+static size_t some_piece(size_t pieces) {
+    size_t places[] = {0, pieces / 2, pieces - 1, (size_t)dice(pieces)};
+    return places[dice(COUNT(places))];
+}
+
+/* Points whose faults, if there are any, are a width or a rise; one width is that of the two ends of 32 bits. */
+static void lay_points(size_t points) {
+    static int64_t widths[1024], rises[1024];
+    static const int64_t bad_widths[] = {0, -1, 1025, -4294967295}, bad_rises[] = {1048577, -1048577, 2147483647};
+    static const int64_t starts[] = {INT32_MIN, -7, 0};
+    uint64_t width_style = dice(4), rise_style = dice(5), faults = dice(8);
+    size_t i, bad = some_piece(points - 1);
+    for (i = 0; i + 1 < points; i++) {
+        widths[i] = width(width_style);
+        rises[i] = rise(rise_style, widths[i]);
+    }
+    if (faults == 1 || faults == 2)
+        rises[some_piece(points - 1)] = bad_rises[dice(COUNT(bad_rises))];
+    if (faults == 2 || faults == 3)
+        widths[bad] = bad_widths[dice(COUNT(bad_widths))];
+    if (dice(3) == 0)
+        lay(&knots, widths, bad, widths[bad] < -1 ? INT32_MAX : 0);
+    else
+        lay(&knots, widths, 0, starts[dice(COUNT(starts))]);
+    lay(&values, rises, 0, dice(4) == 0 ? INT32_MIN : -3);
+}
+
+/* Slopes around those of the pieces, which may bend or not. */
+static void lay_slopes(void) {
+    const int32_t *k = knots.list, *v = values.list;
+    int32_t *list = slopes.list;
+    size_t i, last = slopes.length - 1;
+    uint64_t style = dice(4);
+    for (i = 0; i < slopes.length; i++) {
+        int64_t left = i < last ? (int64_t)i : (int64_t)last - 1;
+        int64_t h = (int64_t)k[left + 1] - k[left], z = (int64_t)v[left + 1] - v[left];
+        int64_t secant = h > 0 ? 256 * z / h : 0;
+        int64_t factor = style == 0 ? 0 : style == 1 ? 3 : (int64_t)dice(5);
+        int64_t slope = secant > 400000000 || secant < -400000000 ? secant : factor * secant;
+        list[i] = style == 3 && dice(6) == 0 ? extreme() : (int32_t)slope;
+    }
+    guarded_keep(&slopes);
+}
+
+static void try_positions(void) {
+    const int32_t *k = knots.list;
+    size_t last = knots.length - 1, inner = (size_t)dice(knots.length);
+    int64_t positions[] = {INT32_MIN, (int64_t)k[0] - 1, k[0], (int64_t)k[inner] - 1, k[inner], (int64_t)k[inner] + 1, k[last], (int64_t)k[last] + 1, INT32_MAX};
+    size_t i;
+    for (i = 0; i < COUNT(positions); i++)
+        if (positions[i] >= INT32_MIN && positions[i] <= INT32_MAX)
+            try_at((int32_t)positions[i]);
+}
+
+static void try_changes(void) {
+    const int32_t *k = knots.list, *v = values.list;
+    size_t points[] = {0, 1, knots.length / 2, knots.length - 2, knots.length - 1, knots.length, (size_t)1 << 32, (size_t)1 << 62, SIZE_MAX};
+    static const int32_t shifts[] = {0, 1, -1, 5};
+    size_t i;
+    for (i = 0; i < COUNT(points); i++) {
+        bool there = points[i] < knots.length;
+        int32_t shift = shifts[dice(COUNT(shifts))];
+        negwafir_change near = {points[i], there ? (int32_t)((int64_t)k[points[i]] + shift) : 0, there ? (int32_t)((int64_t)v[points[i]] - 2 * shift) : 0};
+        negwafir_change far = {points[i], extreme(), extreme()};
+        try_change(near);
+        try_change(far);
+    }
+}
+
+static void try_table(size_t points) {
+    guarded_lend(&knots, points, sizeof(int32_t), where);
+    guarded_lend(&values, points, sizeof(int32_t), where);
+    guarded_lend(&slopes, points, sizeof(int32_t), where);
+    lay_points(points);
+    lay_slopes();
+    try_points();
+    try_check();
+    try_positions();
+    try_changes();
+    try_check();
+    try_build();
+    try_check();
+    try_positions();
+    try_changes();
+    try_check();
+}
+
+static void try_tables(void) {
+    int round;
+    what = "a table by its widths and rises";
+    for (round = 0; round < 600; round++)
+        try_table(2 + (size_t)dice(6));
+    for (round = 0; round < 20; round++)
+        try_table(1023 + (size_t)dice(2));
+}
+
+void bad_tables(void) {
+    guarded_map(&knots);
+    guarded_map(&values);
+    guarded_map(&slopes);
+    for (where = GUARD_BEHIND; where <= GUARD_BEFORE; where++) {
+        try_lengths(true);
+        try_lengths(false);
+        try_tables();
+    }
+}
