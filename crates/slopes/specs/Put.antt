@@ -1,5 +1,5 @@
 -- Writing a range of a list, entry by entry.
-use mathlib.Core.Path.{_≡_, refl, sym, _∙_, ap, subst}
+use mathlib.Core.Path.{_≡_, refl, sym, _∙_, ap, ap₂, subst}
 use mathlib.Core.List.{List}
 use Prim.Native.Nat.{ℕ, zero, suc, _+_, _-_, _<_, _≤_}
 use mathlib.Core.Logic.{⊎-elim}
@@ -29,6 +29,13 @@ module _ (f : ℕ → ℤ) (lo : ℕ) (list : List ℤ) where
   put-next i l =
       subst (λ (j : ℕ). set (put f lo (i - lo) list) j (f j) ≡ put f lo (i + 1 - lo) list) {x = lo + (i - lo)} (omega arith)
       (ap (λ (c : ℕ). put f lo c list) {x = suc (i - lo)} {y = i + 1 - lo} (omega arith))
+
+  -- two ranges behind one another are one
+  pub put-on : (a b : ℕ) → put f (lo + a) b (put f lo a list) ≡ put f lo (a + b) list
+  put-on a zero = ap (λ (c : ℕ). put f lo c list) {x = a} {y = a + zero} (omega arith)
+  put-on a (suc b) =
+      ap₂ (λ (l : List ℤ) (j : ℕ). set l j (f j)) {u = lo + a + b} {v = lo + (a + b)} (put-on a b) (omega arith)
+      ∙ ap (λ (c : ℕ). put f lo c list) {x = suc (a + b)} {y = a + suc b} (omega arith)
 
   pub put-inside : (c j : ℕ) → lo ≤ j → j < lo + c → j < length list → entry (put f lo c list) j ≡ f j
   put-inside zero j l h k = absurd (omega arith)
@@ -61,10 +68,17 @@ tab-entry zero f i l = absurd (omega arith)
 tab-entry (suc n) f zero l = refl
 tab-entry (suc n) f (suc i) l = tab-entry n (λ j. f (suc j)) i (omega arith)
 
-pub put-all : (f : ℕ → ℤ) (list : List ℤ) (n : ℕ) → length list ≡ n → put f 0 (n - 0) list ≡ tab n f
+pub put-all : (f : ℕ → ℤ) (list : List ℤ) (n : ℕ) → length list ≡ n → put f 0 n list ≡ tab n f
 put-all f list n e =
-    ext-getD (pos 0) (put f 0 (n - 0) list) (tab n f) (length-put f 0 list (n - 0) ∙ e ∙ sym (tab-length n f))
-    (λ i l. let k = inside i l in put-inside f 0 list (n - 0) i (omega arith) (omega (arith, e)) k ∙ sym (tab-entry n f i (omega (arith, e))))
+    ext-getD (pos 0) (put f 0 n list) (tab n f) (length-put f 0 list n ∙ e ∙ sym (tab-length n f))
+    (λ i l. let k = inside i l in put-inside f 0 list n i (omega arith) (omega (arith, e)) k ∙ sym (tab-entry n f i (omega (arith, e))))
   where
-    inside : (i : ℕ) → i < length (put f 0 (n - 0) list) → i < length list
-    inside i l = subst (λ (m : ℕ). i < m) (length-put f 0 list (n - 0)) l
+    inside : (i : ℕ) → i < length (put f 0 n list) → i < length list
+    inside i l = subst (λ (m : ℕ). i < m) (length-put f 0 list n) l
+
+-- the first entry, then those between, then the last
+pub put-ends : (f : ℕ → ℤ) (list : List ℤ) (n : ℕ) → 2 ≤ n → length list ≡ n → set (put f 1 (n - 2) (set list 0 (f 0))) (n - 1) (f (n - 1)) ≡ tab n f
+put-ends f list n l e =
+    ap₂ (λ (l : List ℤ) (j : ℕ). set l j (f j)) {u = n - 1} {v = 0 + (1 + (n - 2))} (put-on f 0 list 1 (n - 2)) (omega arith)
+    ∙ ap (λ (c : ℕ). put f 0 c list) {x = suc (1 + (n - 2))} {y = n} (omega arith)
+    ∙ put-all f list n e

@@ -8,7 +8,7 @@ ghost use Rattle.slopes.specs.Put.{put};
 use crate::rule;
 
 // At point i, an end or between two pieces.
-fn slope(knots: &[i32], values: &[i32], i: usize) -> i32
+pub(crate) fn slope(knots: &[i32], values: &[i32], i: usize) -> i32
     requires { ⌜ Points (now knots) (now values) ⌝ }
     requires { ⌜ i < length (now knots) ⌝ }
     ensures { λ r. ⌜ r ≡ builtSlope (now (knots .entry)) (now (values .entry)) i ⌝ }

@@ -1,6 +1,7 @@
 // The slopes of a whole table.
 ghost use Rattle.slopes.specs.Slopes.{Built};
 use crate::point;
+use crate::run;
 use rules::Refusal;
 
 // Builds the slopes of the points into `slopes`, whatever it held, and answers 0 at place 0; or answers the first cause of a refusal, in the order
@@ -12,6 +13,10 @@ pub fn build(knots: &[i32], values: &[i32], slopes: &mut [i32]) -> Refusal
     if refusal.number != rules::DONE {
         return refusal;
     }
-    point::renew(knots, values, slopes, 0, knots.len());
+    // The ends by `slope`, whatever their rule looks at; all others are inner points.
+    let last = knots.len() - 1;
+    slopes[0] = point::slope(knots, values, 0);
+    run::inner(knots, values, slopes);
+    slopes[last] = point::slope(knots, values, last);
     refusal
 }

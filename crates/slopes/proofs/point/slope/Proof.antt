@@ -1,26 +1,19 @@
 -- `slopes::point::slope` meets its contract: the pieces beside a point of an accepted table are within the limits.
-use mathlib.Core.Path.{_≡_, sym, _∙_, ap₂, subst₂}
-use mathlib.Core.List.{List}
-use Prim.Native.Nat.{ℕ, _+_, _-_, _<_}
+use mathlib.Core.Path.{_≡_, _∙_, ap₂}
+use Prim.Native.Nat.{_+_, _-_, _<_}
 use native.Mathlib.Omega.{arith}
-use lib.IntN.{ℤ}
 use lib.ListN.{length}
 use mir.Syntax.{w32, w64}
 use mir.Val.{toZ, ofZ}
 use borrow.Author.Needs.{needs}
 use Rattle.integers.specs.Sizes.{returned}
 use Rattle.cubic.specs.Piece.{unit}
-use Rattle.cubic.specs.Slopes.{endSlope, innerSlope}
+use Rattle.cubic.specs.Slopes.{endSlope}
 use Rattle.table.specs.Table.{step}
-use Rattle.table.specs.Accepted.{Points}
 use Rattle.slopes.specs.Sizes.{Within}
-use Rattle.slopes.specs.Cases.{first-slope, last-slope, inner-slope}
+use Rattle.slopes.specs.Cases.{first-slope, last-slope, piece-within, inner-slope-of}
 use Rattle.slopes.proofs.point.slope.Statement.{statement}
 use Rattle.slopes.proofs.point.slope.Tie as tie
-
--- piece i as the code has it
-piece-within : {ks vs : List ℤ} {h z : ℤ} (i : ℕ) → Points ks vs → i + 1 < length ks → h ≡ step ks i → z ≡ step vs i → Within h z
-piece-within i p l e f = subst₂ Within (sym e) (sym f) (record { width = p .widths i l; rise = p .rises i l })
 
 -- ---- the first point
 
@@ -110,12 +103,7 @@ returns-3 c =
     let d = c .before .before .before .before in
     let s = d .before .before .before .args in
     returned w32 (c .inner .ok) (c .inner .ensures)
-    ∙ same-pieces (left-width (d .before)) (left-rise d) (right-width (c .before .before)) (right-rise (c .before))
-    ∙ inner-slope (s .knots .now) (s .values .now) (s .i) (d .before .before .if1 .left) (inner-point (c .before .before .before))
-  where
-    same-pieces : {h₁ z₁ h₂ z₂ k₁ y₁ k₂ y₂ : ℤ} → h₁ ≡ k₁ → z₁ ≡ y₁ → h₂ ≡ k₂ → z₂ ≡ y₂ → innerSlope unit h₁ z₁ h₂ z₂ ≡ innerSlope unit k₁ y₁ k₂ y₂
-    same-pieces {h₂ = h₂} {z₂ = z₂} {k₁ = k₁} {y₁ = y₁} a b c d =
-        ap₂ (λ (h z : ℤ). innerSlope unit h z h₂ z₂) a b ∙ ap₂ (λ (h z : ℤ). innerSlope unit k₁ y₁ h z) c d
+    ∙ inner-slope-of (s .knots .now) (s .values .now) (s .i) (d .before .before .if1 .left) (inner-point (c .before .before .before)) (left-width (d .before)) (left-rise d) (right-width (c .before .before)) (right-rise (c .before))
 
 pub slope-spec : {M : Type 1} → statement M
 slope-spec =
