@@ -262,6 +262,20 @@ def order_of_causes():
         yield from check_and_at(-1, 0, 20, knots[-1], knots[-1] + 1)
 
 
+def every_fault():
+    """Each of four pieces sound, too wide, rising or falling too far, or not monotone: asked, changed at no cost, built."""
+    sound, wide, far, bent = range(4)
+    rises = in_turn(4, 9)
+    for kinds in product((sound, wide, far, bent), repeat=4):
+        knots = sums([1025 if kind == wide else 2 for kind in kinds])
+        values = sums([rise // 9 * 1048577 if kind == far else rise for kind, rise in zip(kinds, rises)])
+        # As in bends_among_ten: such a slope goes the way of the piece before.
+        slopes = [*(-rise // 9 if kind == bent else 0 for kind, rise in zip(kinds, rises)), 0]
+        yield from table(knots, values, slopes)
+        yield from check_and_at(knots[1])
+        yield from (b"change 2 %d %d" % (knots[2], values[2]), b"build", b"show slopes")
+
+
 def unequal_lengths():
     """Each list of each length from 0 to 3: with good numbers, and with nothing but faults."""
     good, bad = ((0, 1, 2), (0, 1, 4), (256, 384, 768)), ((0, 0, 0), (0, 1048577, 0), (-1, -1, -1))
@@ -416,6 +430,7 @@ GROUPS = (
     ("A slope against the rise, at each place.", against_the_rise),
     ("One or several of ten pieces not monotone: the first is named.", bends_among_ten),
     ("Several causes: widths before rises, rises before pieces, pieces before the position.", order_of_causes),
+    ("Every fault, or none, at each of four pieces.", every_fault),
     ("Lists to check of each length from 0 to 3.", unequal_lengths),
     ("Differences to check that would wrap in 32 bits.", wrapped_differences),
     ("Faults of the line before refusals.", faults_of_the_line),
