@@ -58,14 +58,15 @@ class Room:
         for name, data in files.items():
             (folder / name).write_bytes(data)
 
-    def judge(self, mutant):
-        """What becomes of a mutant on the cases of this room. The code is as it was afterwards."""
-        changed = self.folder / mutant.path
-        changed.write_text(mutant.source)
+    def judge(self, changed):
+        """What becomes of the program with these files changed, on the cases of this room. The code is as it was afterwards."""
+        for path, text in changed.items():
+            (self.folder / path).write_text(text)
         try:
             return self.run()
         finally:
-            changed.write_text((ROOT / mutant.path).read_text())
+            for path in changed:
+                (self.folder / path).write_text((ROOT / path).read_text())
 
     def run(self):
         """What becomes of the program as it stands in the room. One that doesn't end is told by that."""
@@ -140,12 +141,12 @@ class Rooms:
         if any(room.run() != SURVIVES for room in self.free[0]):
             raise SystemExit("mutation: the code as it is does not give the stored answers, so nothing can be told")
 
-    def judge(self, mutant):
+    def judge(self, changed):
         with self.lock:
             rooms = self.free.pop()
         try:
             for room in rooms:
-                verdict = room.judge(mutant)
+                verdict = room.judge(changed)
                 if verdict != SURVIVES:
                     break
             return verdict
