@@ -8,6 +8,17 @@
 VERSION := 1.0.0
 PREFIX ?= /usr/local
 
+# make takes a space for the end of a name, and the shell a sign such as & for its own.
+ifneq ($(words [$(PREFIX)] [$(DESTDIR)]),2)
+$(error PREFIX and DESTDIR may hold no space)
+endif
+ifeq ($(PREFIX),)
+$(error PREFIX is empty)
+endif
+ifeq ($(wildcard crates.txt),)
+$(error run it in the folder of the project: make -C FOLDER)
+endif
+
 library := target/library/libnegwafir.a
 there := $(DESTDIR)$(abspath $(PREFIX))
 archive := $(there)/lib/libnegwafir.a
@@ -31,10 +42,10 @@ $(library): $(sources)
 	@cp target/staticlib/libexports.a $@ && touch -r $(@D)/began $@
 
 install: $(library)
-	install -D -m 644 $(library) $(archive)
-	install -D -m 644 include/negwafir.h $(header)
-	install -D -m 644 include/negwafir.pc.in $(config)
-	sed -i -e 's|@PREFIX@|$(abspath $(PREFIX))|' -e 's|@VERSION@|$(VERSION)|' $(config)
+	install -D -m 644 $(library) '$(archive)'
+	install -D -m 644 include/negwafir.h '$(header)'
+	install -D -m 644 include/negwafir.pc.in '$(config)'
+	sed -i -e 's|@PREFIX@|$(abspath $(PREFIX))|' -e 's|@VERSION@|$(VERSION)|' '$(config)'
 
 uninstall:
-	rm -f $(archive) $(header) $(config)
+	rm -f '$(archive)' '$(header)' '$(config)'

@@ -16,22 +16,26 @@
  *
  * LISTS
  *   A list is a pointer and, behind it, the number of its entries: knots, knots_length. NULL with the
- *   length 0 is an empty list, and so is any other pointer with the length 0.
+ *   length 0 is an empty list, and so is any other pointer with the length 0. NULL with another length
+ *   is no list.
  *
  * WHAT IS ASKED OF THE CALLER
- *   Nothing but what C itself asks. Every length is taken, and every number, and no test is needed
- *   before a call: it refuses what it cannot answer. What C asks:
+ *   Every length is taken, and every number, and no test is needed before a call: it refuses what it
+ *   cannot answer. What is asked is what the library cannot see:
  *     - a list has as many entries as its length says, and they are there, and aligned, until the
  *       call returns;
  *     - a list that the call may change shares no memory with another list of that call. Lists that
- *       it only reads may share theirs.
+ *       it only reads may share theirs;
+ *     - for negwafir_float_answer, that floats are rounded to the nearest, as they are in C unless a
+ *       program says otherwise (fesetround). Otherwise a 0 may be -0; all else stays as promised.
  *
  * REFUSALS
  *   A refusal is a number and a place; number 0 at place 0 is none. The number is the first cause
- *   that holds, in the order that stands with each function, and the place is the first piece for
- *   which it does, or 0 where the cause is not a piece's. So all widths are asked before any rise,
- *   and all rises before any slope: a bad rise at piece 0 and a bad width at piece 9 give 3 at 9.
- *   A refused call changes no list. Its value, piece or verdict is 0, its float answer a dwell at 0.
+ *   that holds, in the order that stands with each function. The place is the first piece for which
+ *   it does, for 8 the position's piece, and 0 where the cause is not a piece's. So all widths are
+ *   asked before any rise, and all rises before any slope: a bad rise at piece 0 and a bad width at
+ *   piece 9 give 3 at 9. A refused call changes no list. Its value, piece or verdict is 0, its float
+ *   answer a dwell at 0.
  *
  * CALLS AT THE SAME TIME
  *   The library keeps nothing from one call to the next and allocates no memory. It may be called
@@ -48,7 +52,7 @@
 extern "C" {
 #endif
 
-/* ---- Limits: each is itself still taken */
+/* ---- Limits, each itself still taken, and the unit of slopes */
 
 #define NEGWAFIR_FEWEST_POINTS 2u
 #define NEGWAFIR_MOST_POINTS 1024u
@@ -161,7 +165,7 @@ typedef struct {
  * PURPOSE    Says whether a table's points could be built on, and builds nothing: the answer is
  *            that of negwafir_build.
  * ARGUMENTS  knots, values  the points.
- *            slopes  only its length matters, not what it holds.
+ *            slopes  as long as the others; what it holds does not matter.
  * ANSWER     the refusal; NEGWAFIR_DONE at place 0 if there is none.
  * REFUSALS   1  the lists' lengths differ; place 0
  *            2  fewer than 2 or more than 1024 points; place 0
@@ -177,8 +181,9 @@ negwafir_refusal negwafir_points(const int32_t *knots, size_t knots_length,
  * negwafir_build
  *
  * PURPOSE    Makes the slopes of a table out of its points, so that every piece is monotone: by
- *            Fritsch and Butland's mean at inner points, and at the two ends by the slope of the
- *            end piece.
+ *            Fritsch and Butland's mean at inner points, 0 where the pieces beside one do not both
+ *            rise or both fall, and at the two ends by the slope of the end piece; all rounded
+ *            toward 0.
  * ARGUMENTS  knots, values  the points.
  *            slopes  takes the slopes, and is as long as the others. What it holds before does not
  *            matter.
@@ -218,7 +223,7 @@ negwafir_refusal negwafir_check(const int32_t *knots, size_t knots_length,
  * PURPOSE    Says whether a point could be changed, and changes nothing: the answer is that of
  *            negwafir_change_point.
  * ARGUMENTS  knots, values  the points as they are.
- *            slopes  only its length matters, not what it holds.
+ *            slopes  as long as the others; what it holds does not matter.
  *            change  the point's number, from 0, and the knot and the value that it would have.
  * ANSWER     the refusal; NEGWAFIR_DONE at place 0 if there is none.
  * REFUSALS   1  the lists' lengths differ; place 0
@@ -237,8 +242,8 @@ negwafir_refusal negwafir_changed_points(const int32_t *knots, size_t knots_leng
  * negwafir_change_point
  *
  * PURPOSE    Gives one point a new knot and a new value, and renews the slopes at it and beside it.
- *            After a build and any number of changes, refused ones among them, the slopes are those
- *            that a build would make.
+ *            After a build that is done and any number of changes, refused ones among them, the
+ *            slopes are those that a build would make.
  * ARGUMENTS  knots, values, slopes  the table. Its slopes are not judged; negwafir_check does that.
  *            change  the point's number, from 0, and the knot and the value that it shall have.
  * ANSWER     the refusal; NEGWAFIR_DONE at place 0 once the change is made.
@@ -416,7 +421,8 @@ bool negwafir_rise_within(int64_t z);
 /* ==== Text ====
  * Words out of lines of bytes, and whole decimal numbers out of words and into them. Positions are
  * counted from 0, and any may be given, also one behind the end of the bytes. A space or a tab
- * separates words; every other byte belongs to one. No text has to end in a 0 byte.
+ * separates words; every other byte belongs to one. No text has to end in a 0 byte. Text in chars is
+ * given as (const uint8_t *)text.
  */
 
 /*
@@ -448,9 +454,10 @@ size_t negwafir_content(const uint8_t *line, size_t line_length);
  * negwafir_append
  *
  * PURPOSE    Puts bytes behind those that a buffer holds, as far as there is room. What finds no
- *            room is left out, so that an answer below the buffer's length says that all is there.
+ *            room is left out, so that an answer below the buffer's length says that all is there. An
+ *            answer that is the length does not say so: lend a byte more than is needed.
  * ARGUMENTS  into  the buffer.
- *            held  how many bytes it holds, from the first on.
+ *            held  how many bytes it holds, from the first on; above its length, as many as that.
  *            more  what is put behind them.
  * ANSWER     how many bytes it holds then, at most its length.
  * REFUSALS   none
@@ -491,8 +498,8 @@ size_t negwafir_count_words(const uint8_t *line, size_t line_length, size_t from
  * ARGUMENTS  line  the line.
  *            start  the part's first position.
  *            end  the position behind its last.
- * ANSWER     how many bytes the line has from start up to end; 0 if there are none. They begin at
- *            line + start.
+ * ANSWER     how many bytes the line has from start up to end; 0 if there are none. If there are any
+ *            they begin at line + start.
  * REFUSALS   none
  * LISTS      line: unchanged.
  */
@@ -502,7 +509,8 @@ size_t negwafir_part(const uint8_t *line, size_t line_length, size_t start, size
  * negwafir_whole
  *
  * PURPOSE    Reads a number of 64 bits, exactly or not at all.
- * ARGUMENTS  text  the whole number's text: one or more digits, behind a '-' if it is negative.
+ * ARGUMENTS  text  the whole number's text: one or more digits, behind a '-' if it is negative. Zeros
+ *            in front are read, and -0 is 0; a '+', a space, or no digit is none.
  * ANSWER     the kind (NEGWAFIR_WHOLE, NEGWAFIR_NOT_DECIMAL or NEGWAFIR_TOO_LARGE) and the value,
  *            which is 0 unless the kind is NEGWAFIR_WHOLE.
  * REFUSALS   none
@@ -514,7 +522,8 @@ negwafir_read negwafir_whole(const uint8_t *text, size_t text_length);
  * negwafir_whole32
  *
  * PURPOSE    Reads a number of 32 bits, exactly or not at all.
- * ARGUMENTS  text  the whole number's text: one or more digits, behind a '-' if it is negative.
+ * ARGUMENTS  text  the whole number's text: one or more digits, behind a '-' if it is negative. Zeros
+ *            in front are read, and -0 is 0; a '+', a space, or no digit is none.
  * ANSWER     the kind (NEGWAFIR_WHOLE, NEGWAFIR_NOT_DECIMAL or NEGWAFIR_TOO_LARGE) and the value,
  *            which is 0 unless the kind is NEGWAFIR_WHOLE.
  * REFUSALS   none
@@ -526,11 +535,12 @@ negwafir_read32 negwafir_whole32(const uint8_t *text, size_t text_length);
  * negwafir_append_natural
  *
  * PURPOSE    Writes a number that is not negative behind the bytes that a buffer holds, as
- *            negwafir_append does. It has no 0 in front and at most 20 digits.
+ *            negwafir_append does. It has at most 20 digits, and but for 0 itself no 0 in front.
  * ARGUMENTS  into  the buffer.
- *            held  how many bytes it holds, from the first on.
+ *            held  how many bytes it holds, from the first on; above its length, as many as that.
  *            n  the number.
- * ANSWER     how many bytes it holds then, at most its length.
+ * ANSWER     how many bytes it holds then, at most its length. A number that finds too little room
+ *            is cut, and what is left may read as another number.
  * REFUSALS   none
  * LISTS      into: the entries from held up to the answer are written, the others unchanged.
  */
@@ -540,11 +550,13 @@ size_t negwafir_append_natural(uint8_t *into, size_t into_length, size_t held, u
  * negwafir_append_whole
  *
  * PURPOSE    Writes a number of 64 bits behind the bytes that a buffer holds, as negwafir_append
- *            does. It has at most 20 bytes, a '-' among them if it is negative.
+ *            does. It has at most 20 bytes, a '-' among them if it is negative, and but for 0
+ *            itself no 0 in front.
  * ARGUMENTS  into  the buffer.
- *            held  how many bytes it holds, from the first on.
+ *            held  how many bytes it holds, from the first on; above its length, as many as that.
  *            n  the number.
- * ANSWER     how many bytes it holds then, at most its length.
+ * ANSWER     how many bytes it holds then, at most its length. A number that finds too little room
+ *            is cut, and what is left may read as another number.
  * REFUSALS   none
  * LISTS      into: the entries from held up to the answer are written, the others unchanged.
  */
@@ -554,11 +566,13 @@ size_t negwafir_append_whole(uint8_t *into, size_t into_length, size_t held, int
  * negwafir_append_whole32
  *
  * PURPOSE    Writes a number of 32 bits behind the bytes that a buffer holds, as negwafir_append
- *            does. It has at most 11 bytes, a '-' among them if it is negative.
+ *            does. It has at most 11 bytes, a '-' among them if it is negative, and but for 0
+ *            itself no 0 in front.
  * ARGUMENTS  into  the buffer.
- *            held  how many bytes it holds, from the first on.
+ *            held  how many bytes it holds, from the first on; above its length, as many as that.
  *            n  the number.
- * ANSWER     how many bytes it holds then, at most its length.
+ * ANSWER     how many bytes it holds then, at most its length. A number that finds too little room
+ *            is cut, and what is left may read as another number.
  * REFUSALS   none
  * LISTS      into: the entries from held up to the answer are written, the others unchanged.
  */

@@ -1,5 +1,5 @@
--- Where a function below answers an enum, a record crosses to C: a number for its case, and the case's values, each 0 where the case has none. Whoever
--- believes such a promise believes this file and the promise of the function below.
+-- Where a function below answers an enum, a record crosses to C: a number for its case, and the case's values, each 0 where the case has none, but for what
+-- stands below a dwell, which is 1. Whoever believes such a promise believes this file and the promise of the function below.
 use mathlib.Core.Bool.{Bool, true, false}
 use Prim.Native.Nat.{ℕ}
 use lib.IntN.{ℤ, pos}
