@@ -1,14 +1,16 @@
-/* Calls without a list: with the most extreme numbers, and with those on both sides of each limit. */
+/* Calls without a list: with the most extreme numbers, those on both sides of each limit, every one that may be a width or a number of
+ * points, and others at random. */
 #include "bad_callers.h"
 #include "rules.h"
 #include "tally.h"
 
 #include <inttypes.h>
 
-/* 2^32 + 1 would be 1 in 32 bits. */
+/* 65538 would be 2 in 16 bits, and 2^32 + 2 in 32 bits. */
 static const int64_t NUMBERS[] = {
-    INT64_MIN, INT64_MIN + 1, -4294967296, INT32_MIN, -1048577, -1048576, -1048575, -1025, -3, -2, -1,
-    0, 1, 2, 3, 10, 1023, 1024, 1025, 1048575, 1048576, 1048577, INT32_MAX, 4294967296, 4294967297, INT64_MAX - 1, INT64_MAX,
+    INT64_MIN, INT64_MIN + 1, -4294967296, INT32_MIN, -1048577, -1048576, -1048575, -65537, -1025, -700, -14, -3, -2, -1,
+    0, 1, 2, 3, 7, 10, 100, 512, 1023, 1024, 1025, 65538, 1048575, 1048576, 1048577, INT32_MAX,
+    4294967296, 4294967297, 4294967298, INT64_MAX - 1, INT64_MAX,
 };
 
 static const int32_t SLOPES[] = {
@@ -25,13 +27,38 @@ static void try_judge(int64_t h, int64_t z, int32_t m, int32_t n) {
     met(A_VERDICT, judgement.verdict);
 }
 
+/* Every slope with every other; where the piece is refused, whatever its slopes are, every slope with one other. */
+static void try_slopes(int64_t h, int64_t z) {
+    size_t m, n, step = is_width(h) && is_rise(z) ? 1 : COUNT(SLOPES);
+    for (m = 0; m < COUNT(SLOPES); m++)
+        for (n = step == 1 ? 0 : COUNT(SLOPES) - 1 - m; n < COUNT(SLOPES); n += step)
+            try_judge(h, z, SLOPES[m], SLOPES[n]);
+}
+
 static void try_pieces(void) {
-    size_t h, z, m, n;
+    size_t h, z;
     for (h = 0; h < COUNT(NUMBERS); h++)
         for (z = 0; z < COUNT(NUMBERS); z++)
-            for (m = 0; m < COUNT(SLOPES); m++)
-                for (n = m % 3; n < COUNT(SLOPES); n += 3)
-                    try_judge(NUMBERS[h], NUMBERS[z], SLOPES[m], SLOPES[n]);
+            try_slopes(NUMBERS[h], NUMBERS[z]);
+}
+
+/* The tip of the accepted region and what lies beside it, a flat piece whose slopes cancel, and one that doubles take for monotone. */
+static void try_known_pieces(void) {
+    static const struct {
+        int64_t h, z;
+        int32_t m, n;
+        uint32_t verdict;
+    } pieces[] = {
+        {1, 1, 1024, 256, NEGWAFIR_RISING},  {1, 1, 256, 1024, NEGWAFIR_RISING},     {1, 1, 1025, 256, NEGWAFIR_BENDS},
+        {1, 1, 1024, 255, NEGWAFIR_BENDS},   {1, 1, 1024, 257, NEGWAFIR_BENDS},      {1, -1, -1024, -256, NEGWAFIR_FALLING},
+        {1, -1, -1025, -256, NEGWAFIR_BENDS}, {1, 0, 1, -1, NEGWAFIR_BENDS},         {1, 0, 0, 0, NEGWAFIR_FLAT},
+        {1, 1042998, 801022472, 801022456, NEGWAFIR_BENDS},
+    };
+    size_t i;
+    for (i = 0; i < COUNT(pieces); i++) {
+        try_judge(pieces[i].h, pieces[i].z, pieces[i].m, pieces[i].n);
+        same_number("the verdict of rules.c", verdict_of(pieces[i].h, pieces[i].z, pieces[i].m, pieces[i].n), pieces[i].verdict);
+    }
 }
 
 /* A piece of some width whose slopes lie around the border of the accepted region, where its ellipse is. */
@@ -68,11 +95,30 @@ static void try_between(int64_t low, int64_t x, int64_t high) {
     same_number("the answer", negwafir_between(low, x, high), low <= x && x <= high);
 }
 
+/* A number of any size, on either side of 0. */
+static int64_t some_number(void) {
+    uint64_t bits = 1 + dice(63);
+    int64_t n = (int64_t)(dice(UINT64_MAX) >> (64 - bits));
+    return dice(2) == 0 ? n : -n;
+}
+
+static void try_some_numbers(void) {
+    int64_t x = some_number(), y = some_number();
+    try_limits(x);
+    try_two(x, y);
+    try_between(y, x, some_number());
+}
+
 void bad_numbers(void) {
     size_t i, j, k;
+    try_known_pieces();
     try_pieces();
     for (i = 0; i < 4000; i++)
         try_border();
+    for (i = 0; i < 4000; i++)
+        try_some_numbers();
+    for (i = 0; i <= 1026; i++)
+        try_limits((int64_t)i);
     for (i = 0; i < COUNT(NUMBERS); i++) {
         try_limits(NUMBERS[i]);
         for (j = 0; j < COUNT(NUMBERS); j++) {

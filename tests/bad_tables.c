@@ -1,4 +1,4 @@
-/* Calls with lists of every length, all combinations of them, and with tables that are good, extreme or faulty in some places. */
+/* Calls with lists of some lengths, all combinations of them, and with tables of every length that are good, extreme or faulty in places. */
 #include "bad_callers.h"
 #include "guarded.h"
 #include "rules.h"
@@ -6,6 +6,7 @@
 
 #include <inttypes.h>
 #include <stdio.h>
+#include <string.h>
 
 static guarded knots, values, slopes;
 static arrangement where;
@@ -18,10 +19,17 @@ static table lists(void) {
     return t;
 }
 
+/* What the call that follows may do with each list. */
+static void allow(permission may_knots, permission may_values, permission may_slopes) {
+    guarded_allow(&knots, may_knots);
+    guarded_allow(&values, may_values);
+    guarded_allow(&slopes, may_slopes);
+}
+
 /* ---- one call: what it answers, and what it leaves in each list and around it */
 
 static void say(const char *function, const char *given) {
-    calling("%s of %zu, %zu and %zu entries, %s, the guard page %s%s", function, knots.length, values.length, slopes.length, what,
+    calling("%s of %zu, %zu and %zu entries, %s, the guard %s%s", function, knots.length, values.length, slopes.length, what,
             guarded_word(where), given);
 }
 
@@ -54,13 +62,16 @@ static void expect_slopes(size_t from, size_t to) {
 }
 
 static void try_points(void) {
+    negwafir_refusal expected = build_refusal(lists());
     say("negwafir_points", "");
-    same_refusal(negwafir_points(LISTS), build_refusal(lists()));
+    allow(READ_ONLY, READ_ONLY, UNTOUCHED);
+    same_refusal(negwafir_points(LISTS), expected);
     lists_as_expected();
 }
 
 static void try_check(void) {
     say("negwafir_check", "");
+    allow(READ_ONLY, READ_ONLY, READ_ONLY);
     same_refusal(negwafir_check(LISTS), check_refusal(lists()));
     lists_as_expected();
 }
@@ -70,6 +81,7 @@ static void try_build(void) {
     if (expected.number == 0)
         expect_slopes(0, slopes.length);
     say("negwafir_build", "");
+    allow(READ_ONLY, READ_ONLY, expected.number ? UNTOUCHED : WRITABLE);
     same_refusal(negwafir_build(LISTS), expected);
     lists_as_expected();
 }
@@ -77,6 +89,7 @@ static void try_build(void) {
 static void try_change(negwafir_change change) {
     negwafir_refusal expected = change_refusal(lists(), change);
     say_change("negwafir_changed_points", change);
+    allow(READ_ONLY, READ_ONLY, UNTOUCHED);
     same_refusal(negwafir_changed_points(LISTS, change), expected);
     lists_as_expected();
     if (expected.number == 0) {
@@ -87,6 +100,10 @@ static void try_change(negwafir_change change) {
         expect_slopes(from, to);
     }
     say_change("negwafir_change_point", change);
+    if (expected.number == 0)
+        allow(WRITABLE, WRITABLE, WRITABLE);
+    else
+        allow(READ_ONLY, READ_ONLY, UNTOUCHED);
     same_refusal(negwafir_change_point(LISTS, change), expected);
     lists_as_expected();
 }
@@ -95,6 +112,7 @@ static void try_evaluate(int32_t position) {
     negwafir_refusal expected = evaluation_refusal(lists(), position);
     negwafir_value at;
     say_at("negwafir_evaluate", position);
+    allow(READ_ONLY, READ_ONLY, READ_ONLY);
     at = negwafir_evaluate(LISTS, position);
     same_refusal(at.refusal, expected);
     same_number("the value", at.value, expected.number ? 0 : value_at(lists(), position));
@@ -105,6 +123,7 @@ static void try_locate(int32_t position) {
     negwafir_refusal expected = evaluation_refusal(lists(), position);
     negwafir_place place;
     say_at("negwafir_locate", position);
+    allow(READ_ONLY, READ_ONLY, READ_ONLY);
     place = negwafir_locate(LISTS, position);
     same_refusal(place.refusal, expected);
     same_number("the piece", (int64_t)place.piece, expected.number ? 0 : (int64_t)piece_at(lists(), position));
@@ -117,6 +136,7 @@ static void try_float_answer(int32_t position) {
     negwafir_told expected = refusal.number ? resting : told_at(lists(), position);
     negwafir_told told;
     say_at("negwafir_float_answer", position);
+    allow(READ_ONLY, READ_ONLY, READ_ONLY);
     told = negwafir_float_answer(LISTS, position);
     same_refusal(told.refusal, refusal);
     same_number("the kind", told.kind, expected.kind);
@@ -133,6 +153,46 @@ static void try_at(int32_t position) {
     try_float_answer(position);
 }
 
+/* ---- answers that are known, and that doubles get wrong */
+
+static void lend(size_t points) {
+    guarded_lend(&knots, points, sizeof(int32_t), where);
+    guarded_lend(&values, points, sizeof(int32_t), where);
+    guarded_lend(&slopes, points, sizeof(int32_t), where);
+}
+
+static void put(guarded *g, const int32_t *entries) {
+    memcpy(g->list, entries, g->length * sizeof *entries);
+    guarded_keep(g);
+}
+
+static void try_known_slope(void) {
+    lend(3);
+    put(&knots, (int32_t[]){0, 2, 12});
+    put(&values, (int32_t[]){0, 21, 72});
+    try_build();
+    same_number("the inner slope by rules.c", slope_at(knots.list, values.list, 3, 1), 1904);
+}
+
+static void lend_piece(int32_t h, int32_t z, int32_t m, int32_t n) {
+    lend(2);
+    put(&knots, (int32_t[]){0, h});
+    put(&values, (int32_t[]){0, z});
+    put(&slopes, (int32_t[]){m, n});
+}
+
+static void try_known_value(void) {
+    lend_piece(979, 707817, 185088, 185088);
+    try_at(158);
+    same_number("the value by rules.c", value_at(lists(), 158), 114234);
+}
+
+static void try_known_bend(int32_t h, int32_t z, int32_t m, int32_t n) {
+    lend_piece(h, z, m, n);
+    try_check();
+    same_number("the refusal by rules.c", check_refusal(lists()).number, NEGWAFIR_BEND);
+}
+
 /* ---- lengths: every combination of them over the three lists */
 
 static const int32_t EXTREMES[] = {
@@ -141,6 +201,14 @@ static const int32_t EXTREMES[] = {
 
 static int32_t extreme(void) {
     return EXTREMES[dice(COUNT(EXTREMES))];
+}
+
+/* One after the other: in an initializer the compiler would choose which is thrown first. */
+static negwafir_change extreme_change(size_t point) {
+    negwafir_change change = {point, 0, 0};
+    change.knot = extreme();
+    change.value = extreme();
+    return change;
 }
 
 static void fill(guarded *g, bool good, int32_t step, int32_t turn) {
@@ -152,7 +220,7 @@ static void fill(guarded *g, bool good, int32_t step, int32_t turn) {
 }
 
 static void try_all(void) {
-    negwafir_change first = {0, extreme(), extreme()}, far = {SIZE_MAX, 0, 0}, last = {knots.length - 1, 3 * (int32_t)knots.length - 2, -5};
+    negwafir_change first = extreme_change(0), far = {SIZE_MAX, 0, 0}, last = {knots.length - 1, 3 * (int32_t)knots.length - 2, -5};
     try_points();
     try_check();
     try_at(6);
@@ -176,6 +244,36 @@ static void try_lengths(bool good) {
                 fill(&knots, good, 3, 0);
                 fill(&values, good, 1, 5);
                 fill(&slopes, good, 0, 0);
+                try_all();
+            }
+}
+
+/* Changes far from the ends and from the middle of a long table whose slopes are 0; the one behind each point has to become another. */
+static void try_changes_of_many(void) {
+    static const size_t points[] = {7, 301, 1015};
+    size_t i;
+    what = "a good table";
+    lend(1023);
+    fill(&knots, true, 3, 0);
+    fill(&values, true, 1, 5);
+    fill(&slopes, true, 0, 0);
+    for (i = 0; i < COUNT(points); i++) {
+        negwafir_change change = {points[i], 3 * (int32_t)points[i] + 1, (int32_t)points[i] - 1};
+        try_change(change);
+    }
+}
+
+/* Lengths of which 16 bits would make those of a table; all of these are refused. */
+static void try_long_lengths(void) {
+    static const size_t lengths[] = {2, LONGEST_IN_16_BITS, 65536 + 2, 65536 + LONGEST_IN_16_BITS};
+    size_t k, v, s;
+    what = "zeros";
+    for (k = 0; k < COUNT(lengths); k++)
+        for (v = 0; v < COUNT(lengths); v++)
+            for (s = k < 2 && v < 2 ? 2 : 0; s < COUNT(lengths); s++) {
+                guarded_lend_long(&knots, lengths[k]);
+                guarded_lend_long(&values, lengths[v]);
+                guarded_lend_long(&slopes, lengths[s]);
                 try_all();
             }
 }
@@ -222,17 +320,19 @@ static void lay_points(size_t points) {
     static const int64_t bad_widths[] = {0, -1, 1025, -4294967295}, bad_rises[] = {1048577, -1048577, 2147483647};
     static const int64_t starts[] = {INT32_MIN, -7, 0};
     uint64_t width_style = dice(4), rise_style = dice(5), faults = dice(8);
-    size_t i, bad = some_piece(points - 1);
+    size_t i, bad = some_piece(points - 1), steep = some_piece(points - 1);
     for (i = 0; i + 1 < points; i++) {
         widths[i] = width(width_style);
         rises[i] = rise(rise_style, widths[i]);
     }
     if (faults == 1 || faults == 2)
-        rises[some_piece(points - 1)] = bad_rises[dice(COUNT(bad_rises))];
+        rises[steep] = bad_rises[dice(COUNT(bad_rises))];
     if (faults == 2 || faults == 3)
         widths[bad] = bad_widths[dice(COUNT(bad_widths))];
     if (dice(3) == 0)
         lay(&knots, widths, bad, widths[bad] < -1 ? INT32_MAX : 0);
+    else if (dice(4) == 0)
+        lay(&knots, widths, points - 1, INT32_MAX);
     else
         lay(&knots, widths, 0, starts[dice(COUNT(starts))]);
     lay(&values, rises, 0, dice(4) == 0 ? INT32_MIN : -3);
@@ -255,35 +355,48 @@ static void lay_slopes(void) {
     guarded_keep(&slopes);
 }
 
+/* A position of some piece that is neither a knot nor beside one, if the piece is wide enough for that. */
+static int64_t well_inside(void) {
+    const int32_t *k = knots.list;
+    size_t piece = (size_t)dice(knots.length - 1);
+    int64_t h = (int64_t)k[piece + 1] - k[piece];
+    return (int64_t)k[piece] + 2 + (int64_t)dice(h > 4 ? (uint64_t)h - 3 : 1);
+}
+
+static void try_position(int64_t position) {
+    if (position >= INT32_MIN && position <= INT32_MAX)
+        try_at((int32_t)position);
+}
+
 static void try_positions(void) {
     const int32_t *k = knots.list;
     size_t last = knots.length - 1, inner = (size_t)dice(knots.length);
-    int64_t positions[] = {INT32_MIN, (int64_t)k[0] - 1, k[0], (int64_t)k[inner] - 1, k[inner], (int64_t)k[inner] + 1, k[last], (int64_t)k[last] + 1, INT32_MAX};
+    int64_t positions[] = {INT32_MIN, (int64_t)k[0] - 1, k[0], (int64_t)k[inner] - 1, k[inner], (int64_t)k[inner] + 1,
+                           k[last], (int64_t)k[last] + 1, INT32_MAX};
     size_t i;
     for (i = 0; i < COUNT(positions); i++)
-        if (positions[i] >= INT32_MIN && positions[i] <= INT32_MAX)
-            try_at((int32_t)positions[i]);
+        try_position(positions[i]);
+    try_position(well_inside());
+    try_position(well_inside());
 }
 
 static void try_changes(void) {
     const int32_t *k = knots.list, *v = values.list;
-    size_t points[] = {0, 1, knots.length / 2, knots.length - 2, knots.length - 1, knots.length, (size_t)1 << 32, (size_t)1 << 62, SIZE_MAX};
+    size_t points[] = {0, 1, 7, (size_t)dice(knots.length), knots.length / 2, knots.length - 2, knots.length - 1,
+                       knots.length, 65536, (size_t)1 << 32, (size_t)1 << 62, SIZE_MAX};
     static const int32_t shifts[] = {0, 1, -1, 5};
     size_t i;
     for (i = 0; i < COUNT(points); i++) {
         bool there = points[i] < knots.length;
         int32_t shift = shifts[dice(COUNT(shifts))];
         negwafir_change near = {points[i], there ? (int32_t)((int64_t)k[points[i]] + shift) : 0, there ? (int32_t)((int64_t)v[points[i]] - 2 * shift) : 0};
-        negwafir_change far = {points[i], extreme(), extreme()};
         try_change(near);
-        try_change(far);
+        try_change(extreme_change(points[i]));
     }
 }
 
 static void try_table(size_t points) {
-    guarded_lend(&knots, points, sizeof(int32_t), where);
-    guarded_lend(&values, points, sizeof(int32_t), where);
-    guarded_lend(&slopes, points, sizeof(int32_t), where);
+    lend(points);
     lay_points(points);
     lay_slopes();
     try_points();
@@ -298,13 +411,36 @@ static void try_table(size_t points) {
     try_check();
 }
 
+/* Few calls: there are many lengths. */
+static void try_length(size_t points) {
+    negwafir_change change = {(size_t)dice(points), 0, 0};
+    lend(points);
+    lay_points(points);
+    lay_slopes();
+    try_points();
+    try_check();
+    try_position(well_inside());
+    try_build();
+    try_check();
+    try_position(well_inside());
+    change.knot = ((int32_t *)knots.list)[change.point];
+    change.value = ((int32_t *)values.list)[change.point] ^ 1;
+    try_change(change);
+    try_check();
+}
+
 static void try_tables(void) {
+    size_t points;
     int round;
     what = "a table by its widths and rises";
     for (round = 0; round < 600; round++)
         try_table(2 + (size_t)dice(6));
     for (round = 0; round < 20; round++)
         try_table(1023 + (size_t)dice(2));
+    for (round = 0; round < 60; round++)
+        try_table(8 + (size_t)dice(round % 4 == 0 ? 1015 : 30));
+    for (points = 2; points <= 1024; points++)
+        try_length(points);
 }
 
 void bad_tables(void) {
@@ -312,6 +448,13 @@ void bad_tables(void) {
     guarded_map(&values);
     guarded_map(&slopes);
     for (where = GUARD_BEHIND; where <= GUARD_BEFORE; where++) {
+        what = "a table whose answer is known";
+        try_known_slope();
+        try_known_value();
+        try_known_bend(1, 1042998, 801022472, 801022456);
+        try_known_bend(1, 0, INT32_MIN, 0);
+        try_changes_of_many();
+        try_long_lengths();
         try_lengths(true);
         try_lengths(false);
         try_tables();

@@ -19,6 +19,24 @@ static bool fault(const char *name) {
 /* What a fault reads and does nothing with. */
 static volatile int64_t seen;
 
+/* Writes the first entry and puts back what it was. */
+static void put_back(const int32_t *list) {
+    volatile int32_t *first = (int32_t *)list;
+    *first ^= 1;
+    *first ^= 1;
+}
+
+static void put_back_byte(const uint8_t *bytes) {
+    volatile uint8_t *first = (uint8_t *)bytes;
+    *first ^= 1;
+    *first ^= 1;
+}
+
+static negwafir_refusal count_refused(void) {
+    negwafir_refusal refusal = {NEGWAFIR_COUNT, 0};
+    return refusal;
+}
+
 #define TABLE const int32_t *knots, size_t knots_length, const int32_t *values, size_t values_length, const int32_t *slopes, size_t slopes_length
 #define LISTS knots, knots_length, values, values_length, slopes, slopes_length
 
@@ -27,10 +45,38 @@ static table listed(TABLE) {
     return t;
 }
 
+/* Whether the position is neither a knot nor beside one, on a piece wider than most. */
+static bool is_well_inside(table t, int32_t position) {
+    size_t i = piece_at(t, position);
+    return t.knots[i + 1] - t.knots[i] > 8 && position > t.knots[i] + 1 && position < t.knots[i + 1] - 1;
+}
+
 /* ---- tables */
+
+/* What the lists' lengths are in fewer bits. */
+static table shortened(table t, size_t mask) {
+    t.knots_length &= mask;
+    t.values_length &= mask;
+    t.slopes_length &= mask;
+    return t;
+}
 
 negwafir_refusal negwafir_points(TABLE) {
     table t = listed(LISTS);
+    if (fault("lengths_in_16_bits"))
+        t = shortened(t, 65535);
+    if (fault("eight_points_refused") && knots_length == 8)
+        return count_refused();
+    if (fault("twelve_points_refused") && knots_length == 12)
+        return count_refused();
+    if (fault("five_hundred_and_twelve_points_refused") && knots_length == 512)
+        return count_refused();
+    if (fault("values_read_by_the_knots_length") && knots_length == 4096 && values_length == 2)
+        seen = values[knots_length - 1];
+    if (fault("points_reads_the_slopes") && slopes_length > 0)
+        seen = slopes[0];
+    if (fault("points_puts_a_knot_back") && knots_length > 0)
+        put_back(knots);
     if (fault("longer_slopes_taken") && slopes_length > knots_length)
         t.slopes_length = knots_length;
     if (fault("first_entry_of_an_empty_list_read"))
@@ -40,10 +86,23 @@ negwafir_refusal negwafir_points(TABLE) {
     return build_refusal(t);
 }
 
+/* The accepted region beyond its triangle, for a piece of width 1 that rises. */
+static bool ellipse_in_doubles(double z, double m, double n) {
+    double over = m + n - 768 * z;
+    return z > 0 && over > 0 && m <= 1024 * z && n <= 1024 * z && over * over <= m * n;
+}
+
 negwafir_refusal negwafir_check(TABLE) {
     negwafir_refusal refusal = check_refusal(listed(LISTS));
     if (fault("place_always_0"))
         refusal.place = 0;
+    if (fault("bend_missed_between_many_points") && knots_length > 7 && knots_length < 1023 && refusal.number == NEGWAFIR_BEND)
+        refusal.number = refusal.place = 0;
+    if (fault("check_puts_a_slope_back") && slopes_length > 0)
+        put_back(slopes);
+    if (fault("bend_asked_in_doubles") && knots_length == 2 && refusal.number == NEGWAFIR_BEND && knots[1] - knots[0] == 1
+        && ellipse_in_doubles(values[1] - values[0], slopes[0], slopes[1]))
+        refusal.number = 0;
     if (fault("place_one_too_far") && refusal.number == NEGWAFIR_BEND)
         refusal.place++;
     if (fault("bend_refused_by_4") && refusal.number == NEGWAFIR_BEND)
@@ -55,15 +114,30 @@ negwafir_refusal negwafir_check(TABLE) {
     return refusal;
 }
 
+static int32_t inner_in_doubles(double h1, double z1, double h2, double z2) {
+    double left = 2 * h2 + h1, right = h2 + 2 * h1;
+    return (int32_t)(256 * (left + right) / (left * h1 / z1 + right * h2 / z2));
+}
+
 negwafir_refusal negwafir_build(const int32_t *knots, size_t knots_length, const int32_t *values, size_t values_length, int32_t *slopes, size_t slopes_length) {
     negwafir_refusal refusal = build_refusal(listed(LISTS));
     size_t i, end = fault("last_slope_left") ? slopes_length - 1 : slopes_length;
     if (fault("build_writes_before_it_refuses") && slopes_length > 0)
         slopes[0] = 0;
-    if (refusal.number)
+    if (fault("refused_build_puts_a_slope_back") && refusal.number && slopes_length > 0)
+        put_back(slopes);
+    if (fault("refused_build_reads_the_slopes") && refusal.number && slopes_length > 0)
+        seen = slopes[0];
+    if (fault("build_puts_a_value_back") && values_length > 0)
+        put_back(values);
+    if (refusal.number || (fault("built_only_where_a_piece_bends") && check_refusal(listed(LISTS)).number == 0))
         return refusal;
     for (i = 0; i < end; i++)
         slopes[i] = slope_at(knots, values, slopes_length, i);
+    if (fault("slopes_left_between_many_points") && slopes_length > 7 && slopes_length < 1023)
+        slopes[slopes_length / 3] ^= 1;
+    if (fault("inner_slopes_in_doubles") && slopes_length == 3 && slopes[1] > 0)
+        slopes[1] = inner_in_doubles(knots[1] - knots[0], values[1] - values[0], knots[2] - knots[1], values[2] - values[1]);
     if (fault("a_slope_behind_the_last"))
         slopes[slopes_length] = 0;
     if (fault("build_writes_a_value"))
@@ -75,9 +149,22 @@ negwafir_refusal negwafir_changed_points(TABLE, negwafir_change change) {
     negwafir_refusal refusal = change_refusal(listed(LISTS), change);
     if (fault("asked_and_changed") && refusal.number == 0)
         ((int32_t *)values)[change.point] = change.value ^ 1;
+    if (fault("asked_change_reads_the_slopes") && slopes_length > 0)
+        seen = slopes[0];
+    if (fault("asked_change_puts_a_value_back") && values_length > 0)
+        put_back(values);
     if (fault("no_point_refused_by_6") && refusal.number == NEGWAFIR_POINT)
         refusal.number = NEGWAFIR_POSITION;
     return refusal;
+}
+
+/* Slopes that a change leaves as they were, though they belong to it. */
+static bool left_by_fault(size_t points, size_t changed, size_t i) {
+    if (fault("slope_behind_the_seventh_of_many_left"))
+        return points == 1023 && changed == 7 && i == 8;
+    if (fault("slope_left_between_the_ends_and_the_middle"))
+        return changed > 4 && changed + 3 < points && changed != points / 2 && i == changed + 1;
+    return false;
 }
 
 negwafir_refusal negwafir_change_point(int32_t *knots, size_t knots_length, int32_t *values, size_t values_length, int32_t *slopes, size_t slopes_length,
@@ -86,12 +173,20 @@ negwafir_refusal negwafir_change_point(int32_t *knots, size_t knots_length, int3
     size_t i, beside = fault("changed_slope_only") ? 0 : fault("a_slope_too_many") ? 2 : 1;
     if (fault("changed_though_refused") && refusal.number == NEGWAFIR_WIDTH)
         knots[change.point] = change.knot;
+    if (fault("refused_change_puts_a_knot_back") && refusal.number == NEGWAFIR_WIDTH)
+        put_back(knots + change.point);
+    if (fault("refused_change_puts_a_slope_back") && refusal.number == NEGWAFIR_POINT)
+        put_back(slopes);
+    if (fault("point_in_16_bits") && refusal.number == NEGWAFIR_POINT && change.point == 65536)
+        return count_refused();
     if (refusal.number)
+        return refusal;
+    if (fault("nothing_renewed_where_the_point_stays") && knots[change.point] == change.knot && values[change.point] == change.value)
         return refusal;
     knots[change.point] = change.knot;
     values[change.point] = change.value;
     for (i = 0; i < slopes_length; i++)
-        if (i + beside >= change.point && i <= change.point + beside)
+        if (i + beside >= change.point && i <= change.point + beside && !left_by_fault(slopes_length, change.point, i))
             slopes[i] = slope_at(knots, values, slopes_length, i);
     return refusal;
 }
@@ -103,16 +198,55 @@ negwafir_place negwafir_locate(TABLE, int32_t position) {
     negwafir_place place = {evaluation_refusal(t, position), 0};
     if (place.refusal.number == 0)
         place.piece = piece_at(t, position);
+    if (fault("first_piece_well_inside") && place.refusal.number == 0 && is_well_inside(t, position))
+        place.piece = 0;
+    if (fault("locate_puts_a_knot_back") && knots_length > 0)
+        put_back(knots);
     if (fault("knot_to_the_piece_that_ends_there") && place.piece > 0 && position == knots[place.piece])
         place.piece--;
     return place;
+}
+
+/* The value on a straight line between the two points. */
+static int32_t straight(table t, int32_t position) {
+    size_t i = piece_at(t, position);
+    wide h = (wide)t.knots[i + 1] - t.knots[i], z = (wide)t.values[i + 1] - t.values[i];
+    return (int32_t)(t.values[i] + rounded_down(z * ((wide)position - t.knots[i]), h));
+}
+
+static int32_t value_in_doubles(table t, int32_t position) {
+    size_t i = piece_at(t, position);
+    double h = t.knots[i + 1] - t.knots[i], z = t.values[i + 1] - t.values[i], x = (position - t.knots[i]) / h;
+    double a = t.slopes[i] * h / 256, b = t.slopes[i + 1] * h / 256;
+    return t.values[i] + (int32_t)(((a + b - 2 * z) * x + (3 * z - 2 * a - b)) * x * x + a * x);
+}
+
+/* Values that are wrong well inside a piece, or at the ends of 32 bits, and nowhere else. */
+static int32_t value_by_fault(table t, int32_t position) {
+    if (fault("straight_well_inside") && is_well_inside(t, position))
+        return straight(t, position);
+    if (fault("left_value_between_many_points") && t.knots_length > 7 && t.knots_length < 1023)
+        return t.values[piece_at(t, position)];
+    if (fault("value_in_doubles") && t.knots_length == 2 && t.values[1] > t.values[0] && t.values[0] == 0)
+        return value_in_doubles(t, position);
+    if (fault("value_wrong_at_the_largest_knot") && position == INT32_MAX)
+        return 0;
+    if (fault("value_wrong_at_the_least_knot") && position == INT32_MIN)
+        return 0;
+    return value_at(t, position);
 }
 
 negwafir_value negwafir_evaluate(TABLE, int32_t position) {
     table t = listed(LISTS);
     negwafir_value at = {evaluation_refusal(t, position), 0};
     if (at.refusal.number == 0)
-        at.value = value_at(t, position);
+        at.value = value_by_fault(t, position);
+    if (fault("evaluate_puts_a_value_back") && values_length > 0)
+        put_back(values);
+    if (fault("largest_knot_refused") && at.refusal.number == 0 && knots[knots_length - 1] == INT32_MAX) {
+        at.refusal.number = NEGWAFIR_POSITION;
+        at.value = 0;
+    }
     if (fault("a_value_where_refused") && at.refusal.number == NEGWAFIR_POSITION)
         at.value = values[0] ^ 1;
     if (fault("value_one_too_high") && at.refusal.number == 0 && at.value < -1)
@@ -133,9 +267,30 @@ negwafir_told negwafir_float_answer(TABLE, int32_t position) {
         told.left = -0.0;
     if (fault("large_refused_at_place_0") && refusal.number == NEGWAFIR_SIZE)
         told.refusal.place = 0;
+    if (fault("numerator_in_single_floats_well_inside") && refusal.number == 0 && is_well_inside(t, position))
+        told.numerator = (float)told.numerator;
+    if (fault("float_answer_puts_a_slope_back") && slopes_length > 0)
+        put_back(slopes);
     if (fault("move_on_a_flat_piece") && refusal.number == 0)
         told.kind = NEGWAFIR_MOVE;
     return told;
+}
+
+/* Verdicts that are wrong at the tips of the accepted region, or beside them, and nowhere else. */
+static uint32_t verdict_by_fault(uint32_t verdict, int64_t h, int64_t z, int32_t m, int32_t n) {
+    if (fault("rising_tip_bends") && verdict == NEGWAFIR_RISING && m * h >= 1024 * z)
+        return NEGWAFIR_BENDS;
+    if (fault("falling_tip_bends") && verdict == NEGWAFIR_FALLING && n * h <= 1024 * z)
+        return NEGWAFIR_BENDS;
+    if (fault("taken_beside_the_tip") && h == 1 && z == 1 && m == 1025 && n == 256)
+        return NEGWAFIR_RISING;
+    if (fault("taken_below_the_tip") && h == 1 && z == 1 && m == 1024 && n == 255)
+        return NEGWAFIR_RISING;
+    if (fault("flat_if_the_slopes_cancel") && z == 0 && m + (int64_t)n == 0)
+        return NEGWAFIR_FLAT;
+    if (fault("ellipse_in_doubles") && verdict == NEGWAFIR_BENDS && h == 1 && ellipse_in_doubles((double)z, m, n))
+        return NEGWAFIR_RISING;
+    return verdict;
 }
 
 negwafir_judgement negwafir_judge(int64_t h, int64_t z, int32_t m, int32_t n) {
@@ -146,6 +301,8 @@ negwafir_judgement negwafir_judge(int64_t h, int64_t z, int32_t m, int32_t n) {
         judgement.verdict = verdict_of(h, z, m, n);
     if (fault("the_papers_less") && h == 1 && z == 1 && m == 768 && n == 768)
         judgement.verdict = NEGWAFIR_BENDS;
+    if (judgement.refusal.number == 0)
+        judgement.verdict = verdict_by_fault(judgement.verdict, h, z, m, n);
     return judgement;
 }
 
@@ -160,29 +317,48 @@ bool negwafir_between(int64_t low, int64_t x, int64_t high) {
 }
 
 int64_t negwafir_floor_div(int64_t n, int64_t d) {
+    if (fault("division_by_7_toward_zero") && d == 7)
+        return n / d;
+    if (fault("division_by_some_toward_zero") && d > 4000 && d < 60000)
+        return n / d;
+    if (fault("whole_quotient_by_7_too_low") && d == 7 && n < 0 && n % d == 0)
+        return n / d - 1;
     if (fault("division_toward_zero") && d > 0)
         return n / d;
     return d > 0 ? (int64_t)rounded_down(n, d) : 0;
 }
 
 bool negwafir_count_within(size_t n) {
+    if (fault("count_in_16_bits"))
+        return is_count(n & 65535);
+    if (fault("count_in_32_bits"))
+        return is_count(n & 4294967295);
+    if (fault("count_of_512_refused") && n == 512)
+        return false;
     return is_count(n) || (fault("one_point_is_enough") && n == 1);
 }
 
 bool negwafir_width_within(int64_t h) {
+    if (fault("width_of_777_refused") && h == 777)
+        return false;
+    if (fault("width_of_100_refused") && h == 100)
+        return false;
     return is_width(fault("width_in_32_bits") ? (int32_t)h : h);
 }
 
 bool negwafir_rise_within(int64_t z) {
-    return is_rise(z) && !(fault("least_rise_refused") && z == -1048576);
+    return is_rise(z) && !(fault("least_rise_refused") && z == -1048576) && !(fault("fall_of_700_refused") && z == -700);
 }
 
 /* ---- text */
 
 size_t negwafir_find(const uint8_t *bytes, size_t bytes_length, size_t from, uint8_t byte) {
     size_t i = from;
-    while (i < bytes_length && bytes[i] != byte)
+    uint8_t wanted = fault("only_cr_found") ? '\r' : byte;
+    while (i < bytes_length && (bytes[i] != wanted || (fault("bytes_above_127_missed") && byte > 127)))
         i++;
+    if (fault("find_puts_a_byte_back") && bytes_length > 0)
+        put_back_byte(bytes);
     if (fault("read_behind_the_last_byte") && i == bytes_length)
         seen = bytes[i];
     return i;
@@ -191,22 +367,51 @@ size_t negwafir_find(const uint8_t *bytes, size_t bytes_length, size_t from, uin
 size_t negwafir_content(const uint8_t *line, size_t line_length) {
     if (fault("last_byte_of_an_empty_line_read"))
         seen = line[line_length - 1];
+    if (fault("lf_left_out") && line_length > 0 && line[line_length - 1] == '\n')
+        return line_length - 1;
+    if (fault("lone_cr_kept") && line_length == 1)
+        return 1;
+    if (fault("every_last_cr_left_out"))
+        while (line_length > 1 && line[line_length - 2] == '\r')
+            line_length--;
     return line_length > 0 && line[line_length - 1] == '\r' ? line_length - 1 : line_length;
 }
 
+static size_t put_behind(uint8_t *into, size_t into_length, size_t held, const void *more, size_t more_length) {
+    size_t room = held < into_length ? into_length - held : 0;
+    size_t count = more_length < room ? more_length : room;
+    if (count > 0)
+        memcpy(into + held, more, count);
+    return held < into_length ? held + count : into_length;
+}
+
 size_t negwafir_append(uint8_t *into, size_t into_length, size_t held, const uint8_t *more, size_t more_length) {
-    size_t i;
-    for (i = 0; i < more_length && held < into_length && i < into_length - held; i++)
-        into[held + i] = more[i];
+    size_t i, end = put_behind(into, into_length, held, more, more_length);
+    if (fault("appended_backward"))
+        for (i = held; i < end; i++)
+            into[i] = more[more_length - 1 - (i - held)];
+    if (fault("full_buffer_put_back") && into_length > 0 && held >= into_length)
+        put_back_byte(into);
+    if (fault("appended_bytes_put_back") && more_length > 0)
+        put_back_byte(more);
     if (fault("a_byte_behind_the_answer") && held < into_length && more_length < into_length - held)
         into[held + more_length] ^= 1;
-    return held < into_length ? held + i : into_length;
+    return end;
+}
+
+/* Bytes that do not end a word here, and do elsewhere. */
+static bool ends_by_fault(uint8_t byte) {
+    return (byte == '\n' && fault("lf_ends_a_word")) || (byte == '\v' && fault("vt_ends_a_word")) || (byte == 0xa0 && fault("nbsp_ends_a_word"));
 }
 
 negwafir_span negwafir_next_word(const uint8_t *line, size_t line_length, size_t from) {
     negwafir_span word = word_from(line, line_length, from);
+    size_t i, end = word.end;
     if (fault("a_place_where_no_word_is") && !word.found)
         word.start = word.end = line_length;
+    for (i = end; i > word.start; i--)
+        if (ends_by_fault(line[i - 1]))
+            word.end = i - 1;
     return word;
 }
 
@@ -215,6 +420,8 @@ size_t negwafir_count_words(const uint8_t *line, size_t line_length, size_t from
     negwafir_span word;
     for (word = word_from(line, line_length, from); word.found; word = word_from(line, line_length, word.end))
         count++;
+    if (fault("words_put_a_byte_back") && line_length > 0)
+        put_back_byte(line);
     return count + (fault("empty_word_counted") && from < line_length && is_separator(line[from]));
 }
 
@@ -224,7 +431,66 @@ size_t negwafir_part(const uint8_t *line, size_t line_length, size_t start, size
     return start < line_length && start < stop ? stop - start : 0;
 }
 
+static bool begins(const uint8_t *text, size_t length, const char *with) {
+    return length > strlen(with) && memcmp(text, with, strlen(with)) == 0;
+}
+
+/* How many bytes at the end of a text a fault does not read. */
+static size_t unread(const uint8_t *text, size_t length) {
+    uint8_t last = length > 1 ? text[length - 1] : '0';
+    return (last == '\n' && fault("lf_behind_a_number_taken")) || (last == 0 && fault("0_byte_behind_a_number_taken"));
+}
+
+/* A number that does not fit, held for one that does if it never became smaller from one digit to the next. */
+static negwafir_read read_by_less(const uint8_t *text, size_t length) {
+    negwafir_read large = {NEGWAFIR_TOO_LARGE, 0}, read = {NEGWAFIR_WHOLE, 0};
+    uint64_t n = 0, next;
+    size_t i;
+    for (i = 0; i < length; i++, n = next) {
+        next = 10 * n + (uint64_t)(text[i] - '0');
+        if (next < n)
+            return large;
+    }
+    read.value = (int64_t)n;
+    return n > INT64_MAX ? large : read;
+}
+
+/* Texts that are no numbers, or not these, and that other readers take. */
+static bool is_read_otherwise(const uint8_t *text, size_t length, negwafir_read *read) {
+    negwafir_read zero = {NEGWAFIR_WHOLE, 0}, sixteen = {NEGWAFIR_WHOLE, 16}, eight = {NEGWAFIR_WHOLE, 8};
+    negwafir_read none = {NEGWAFIR_NOT_DECIMAL, 0}, large = {NEGWAFIR_TOO_LARGE, 0};
+    if (fault("no_text_is_0") && length == 0)
+        *read = zero;
+    else if (fault("a_sign_alone_is_0") && length == 1 && text[0] == '-')
+        *read = zero;
+    else if (fault("minus_00_refused") && begins(text, length, "-0"))
+        *read = none;
+    else if (fault("zeros_in_front_refused") && begins(text, length, "00"))
+        *read = none;
+    else if (fault("octal_read") && length == 3 && begins(text, length, "01"))
+        *read = eight;
+    else if (fault("hexadecimal_read") && begins(text, length, "0x"))
+        *read = sixteen;
+    else if (fault("too_large_before_no_digit") && begins(text, length, "99999999999999999999"))
+        *read = large;
+    else if (fault("tab_in_front_taken") && begins(text, length, "\t"))
+        *read = number_in(text + 1, length - 1, INT64_MIN, INT64_MAX);
+    else if (fault("underscore_taken") && begins(text, length, "1_"))
+        *read = number_in(text + 2, length - 2, INT64_MIN, INT64_MAX);
+    else if (fault("overflow_asked_by_less") && number_in(text, length, INT64_MIN, INT64_MAX).kind == NEGWAFIR_TOO_LARGE && text[0] != '-')
+        *read = read_by_less(text, length);
+    else
+        return false;
+    return true;
+}
+
 negwafir_read negwafir_whole(const uint8_t *text, size_t text_length) {
+    negwafir_read read;
+    if (fault("whole_puts_a_byte_back") && text_length > 0)
+        put_back_byte(text);
+    if (is_read_otherwise(text, text_length, &read))
+        return read;
+    text_length -= unread(text, text_length);
     if (fault("plus_taken") && text_length == 2 && text[0] == '+')
         return number_in(text + 1, 1, INT64_MIN, INT64_MAX);
     return number_in(text, text_length, fault("least_number_lost") ? -INT64_MAX : INT64_MIN, INT64_MAX);
@@ -239,17 +505,18 @@ negwafir_read32 negwafir_whole32(const uint8_t *text, size_t text_length) {
 size_t negwafir_append_natural(uint8_t *into, size_t into_length, size_t held, uint64_t n) {
     char digits[24];
     int count = sprintf(digits, fault("zero_in_front") ? "%02" PRIu64 : "%" PRIu64, n);
-    return negwafir_append(into, into_length, held, (const uint8_t *)digits, (size_t)count);
+    return put_behind(into, into_length, held, digits, (size_t)count);
 }
 
 size_t negwafir_append_whole(uint8_t *into, size_t into_length, size_t held, int64_t n) {
     char digits[24];
-    int count = sprintf(digits, "%" PRId64, fault("sign_dropped") && n == INT64_MIN ? 0 : n);
-    return negwafir_append(into, into_length, held, (const uint8_t *)digits, (size_t)count);
+    bool dropped = (fault("sign_dropped") && n == INT64_MIN) || (fault("small_sign_dropped") && n == -5);
+    int count = sprintf(digits, "%" PRId64, dropped ? 0 : n);
+    return put_behind(into, into_length, held, digits, (size_t)count);
 }
 
 size_t negwafir_append_whole32(uint8_t *into, size_t into_length, size_t held, int32_t n) {
     char digits[24];
     int count = sprintf(digits, "%" PRId32, n);
-    return negwafir_append(into, into_length, fault("held_overwritten") ? 0 : held, (const uint8_t *)digits, (size_t)count);
+    return put_behind(into, into_length, fault("held_overwritten") ? 0 : held, digits, (size_t)count);
 }

@@ -1,6 +1,6 @@
-// The header as C++ reads it.
+// The header as C++ reads it, and the archive as C++ links it: without extern "C" the name below is another, which no archive has.
 #include <negwafir.h>
 
-bool is_refused() {
-    return negwafir_check(nullptr, 0, nullptr, 0, nullptr, 0).number != NEGWAFIR_DONE;
+int main() {
+    return negwafir_check(nullptr, 0, nullptr, 0, nullptr, 0).number == NEGWAFIR_COUNT ? 0 : 1;
 }

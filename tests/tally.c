@@ -61,7 +61,7 @@ void met(family which, uint32_t number) {
 }
 
 static void stopped(int signal) {
-    static const char said[] = ": it touches what it was not lent\n";
+    static const char said[] = ": it touches what it may not touch\n";
     (void)signal;
     if (write(STDOUT_FILENO, "bad callers: ", 13) < 0 || write(STDOUT_FILENO, call, strlen(call)) < 0
         || write(STDOUT_FILENO, said, sizeof said - 1) < 0)

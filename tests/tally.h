@@ -19,7 +19,7 @@ void same_float(const char *what, double answered, double expected);
 typedef enum { A_VERDICT, A_TOLD, A_READ, CASES } family;
 void met(family which, uint32_t number);
 
-/* From here on a call that touches what it was not lent is said and ends the run. */
+/* From here on a call that touches what it may not touch is said and ends the run. */
 void tally_begin(void);
 
 /* Every refusal, verdict and kind has been met, and so many calls were made. */
