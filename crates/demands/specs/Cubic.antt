@@ -13,6 +13,7 @@ use Rattle.integers.specs.Order.{0≤-number, pos-≤}
 use Rattle.cubic.specs.Piece.{unit, slopeAt, riseAt, Monotone}
 use Rattle.cubic.specs.Rise.{at-left, at-right}
 use Rattle.cubic.specs.InOrder.{the-cubic-is-in-order}
+use Rattle.demands.specs.Demands.{NoSlopeAgainstItsRise}
 
 -- `slopeAt` is the slope of `riseAt`: from the fraction k/q on to (k + e)/q the cubic rises by e times its slope there, and a rest with e².
 pub slopeAt-is-the-slope-of-riseAt : (Z a b k e q : ℤ)
@@ -31,24 +32,6 @@ slopeAt-starts-with-a Z a b q = ring (Z ∷ a ∷ b ∷ q ∷ []) (search quote 
 
 pub slopeAt-ends-with-b : (Z a b q : ℤ) → slopeAt Z a b q q ≡ b *ℤ (q *ℤ q)
 slopeAt-ends-with-b Z a b q = ring (Z ∷ a ∷ b ∷ q ∷ []) (search quote depth 30 fits 9000) tt
-
-module _ (h z m n : ℤ) where
-  -- the slope of the piece's cubic at the fraction k/q of its width, times 256·h·q², and what the cubic has risen by up to there, times 256·q³
-  abbrev pub slope : (k q : ℕ) → ℤ
-  slope k q = slopeAt (unit *ℤ z) (m *ℤ h) (n *ℤ h) (pos k) (pos q)
-
-  abbrev pub rise : (k q : ℕ) → ℤ
-  rise k q = riseAt (unit *ℤ z) (m *ℤ h) (n *ℤ h) (pos k) (pos q)
-
-  -- "its cubic has no slope against its rise at any fraction of its width, or, without a rise, is level throughout"
-  pub record NoSlopeAgainstItsRise : Type 0 where
-    pub rising : pos 0 <ℤ z → (k q : ℕ) → 1 ≤ q → k ≤ q → pos 0 ≤ℤ slope k q
-    pub falling : z <ℤ pos 0 → (k q : ℕ) → 1 ≤ q → k ≤ q → slope k q ≤ℤ pos 0
-    pub level : z ≡ pos 0 → (k q : ℕ) → 1 ≤ q → k ≤ q → rise k q ≡ pos 0
-
-  -- w is what the cubic has risen by, t counts into the piece, rounded down to a whole number: w·d ≤ n < (w + 1)·d, where n/d is the cubic
-  abbrev pub RoundedDown : (t w : ℤ) → Type 0
-  RoundedDown t w = Floor (riseAt (unit *ℤ z) (m *ℤ h) (n *ℤ h) t h) (unit *ℤ (h *ℤ h *ℤ h)) w
 
 -- ---- that no slope is against the rise is the exact rules' definition
 
@@ -75,17 +58,17 @@ module _ {h z m n : ℤ} where
   pub no-slope-against : Monotone unit h z m n → NoSlopeAgainstItsRise h z m n
   no-slope-against o =
       record {
-        rising = λ p. o .rising p .at;
-        falling = λ p k q q₁ k₁. down (turned (unit *ℤ z) (m *ℤ h) (n *ℤ h) (pos k) (pos q)) (o .falling p .at k q q₁ k₁);
-        level = λ e k q q₁ k₁. sym (the-cubic-is-in-order o (pos 0) (pos k) (pos q) (≤ℤ-refl (pos 0)) (0≤-number k) (pos-≤ k₁) (pos-≤ q₁) .level e) ∙ at-left (unit *ℤ z) (m *ℤ h) (n *ℤ h) (pos q);
+        while-rising = λ p. o .rising p .at;
+        while-falling = λ p k q q₁ k₁. down (turned (unit *ℤ z) (m *ℤ h) (n *ℤ h) (pos k) (pos q)) (o .falling p .at k q q₁ k₁);
+        while-level = λ e k q q₁ k₁. sym (the-cubic-is-in-order o (pos 0) (pos k) (pos q) (≤ℤ-refl (pos 0)) (0≤-number k) (pos-≤ k₁) (pos-≤ q₁) .level e) ∙ at-left (unit *ℤ z) (m *ℤ h) (n *ℤ h) (pos q);
       }
 
   pub monotone-without : NoSlopeAgainstItsRise h z m n → Monotone unit h z m n
   monotone-without o =
       record {
-        rising = λ p. record { at = o .rising p };
-        falling = λ p. record { at = λ k q q₁ k₁. up (turned (unit *ℤ z) (m *ℤ h) (n *ℤ h) (pos k) (pos q)) (o .falling p k q q₁ k₁) };
+        rising = λ p. record { at = o .while-rising p };
+        falling = λ p. record { at = λ k q q₁ k₁. up (turned (unit *ℤ z) (m *ℤ h) (n *ℤ h) (pos k) (pos q)) (o .while-falling p k q q₁ k₁) };
         level = λ e.
-            settled z (m *ℤ h) (n *ℤ h) _ _ e (at-half (unit *ℤ z) (m *ℤ h) (n *ℤ h)) (at-third (unit *ℤ z) (m *ℤ h) (n *ℤ h)) (o .level e 1 2 (lit≤ tt) (lit≤ tt))
-            (o .level e 1 3 (lit≤ tt) (lit≤ tt));
+            settled z (m *ℤ h) (n *ℤ h) _ _ e (at-half (unit *ℤ z) (m *ℤ h) (n *ℤ h)) (at-third (unit *ℤ z) (m *ℤ h) (n *ℤ h)) (o .while-level e 1 2 (lit≤ tt) (lit≤ tt))
+            (o .while-level e 1 3 (lit≤ tt) (lit≤ tt));
       }

@@ -1,230 +1,284 @@
--- The three demands that decide everything, sentence by sentence, and beneath each sentence the theorems that say it. What a theorem takes of a call is what its
--- function promises (the `ensures` line), so that it holds of whatever the function answers.
-use mathlib.Core.Path.{_≡_, subst, refl, sym, _∙_, ap}
-use mathlib.Core.Bool.{Bool, true}
-use mathlib.Core.Logic.{_↔_, _⊎_, inl, inr, ⊎-elim}
-use mathlib.Core.List.{List}
+-- The user's three demands, word for word, as predicates of any implementation. This file has no proof: it can be read from top to bottom. `Met.antt` shows
+-- that ours meets the three, as Rattle functions and as the library for C; `Wrong1.antt`, `Wrong2.antt` and `Wrong3.antt` show of wrong programs that they do not.
+--
+-- How to read it:
+--   A → B, A ↔ B, A × B, A ⊎ B    if A then B; A exactly if B; A and B; A or B
+--   A → ⊥, x ≡ y                  not A; x equals y
+--   (i : ℕ) → A                   A for every whole number i from 0 on; ℤ has the negative ones too. {..} in place of (..) says the same
+--   pos n, negsuc n               n, and −(n + 1), as numbers of ℤ; +ℤ, -ℤ, *ℤ, ≤ℤ, <ℤ their arithmetic and order, products before sums
+--   x ∷ y ∷ [], xs ++ ys          the list of x and y; one list behind another
+--   length, entry, step           how long a list is; its entry i, from 0; entry i + 1 less entry i: piece i's width, of the knots, or its rise, of the values
+--   r .field, record, data        what the record r holds there; all of the lines below it hold; one of the lines below it holds
+--   table ks vs ss, changedBy c t a table of three lists; its points as they would be after the change c
+--   Holds, HoldsAt, HoldsFor,     the cause with a number holds at a place: of a table, at a position, for a float answer, and of the points as they would be after
+--     HoldsAfter                  a change (`Table.antt` and `Changed.antt` of `table`, `Position.antt` of `position`, `Drive.antt` of `drive`)
+--   WidthWithin, RiseWithin       the limits of document 01 (`Limits.antt` of `rules`)
+--   Belongs ks x i                the position x belongs to piece i: a knot to the piece that starts there, and the last one to the last piece (`Position.antt`)
+--   Near k i                      i is k − 1, k or k + 1 (`Beside.antt` of `change`)
+--   slopeAt, riseAt, unit         the slope of a piece's cubic and the cubic, at a fraction of the width, and 256 (`Piece.antt` of `cubic`)
+--   Floor n d q                   q is n/d rounded down: q·d ≤ n < (q + 1)·d; magnitude x is x without its sign, and withSign z x is x with the sign of z
+-- What our own functions promise, `Given`, `Judged`, `Built`, `Located`, `Evaluated`, `Driving` and `Changed`, is not needed here: `Ours.antt` ties it to these words.
+use mathlib.Core.Path.{_≡_}
+use mathlib.Core.Logic.{_↔_, _⊎_}
+use mathlib.Core.List.{List, [], _∷_, _++_}
 use Prim.Native.Nat.{ℕ, _+_, _<_, _≤_}
-use native.Mathlib.Omega.{arith}
-use lib.IntN.{ℤ, pos, _-ℤ_}
-use lib.Signed.{_<ℤ_}
-use lib.ListN.{length, length-set}
-use Rattle.integers.specs.Promise.{Decided, holds}
-use Rattle.integers.specs.Decided.{told, one-decision}
-use Rattle.integers.specs.Signs.{by-sign}
-use Rattle.cubic.specs.Piece.{unit, Monotone}
-use Rattle.cubic.specs.Monotone.{monotone-stable}
+use lib.IntN.{ℤ, pos, negsuc, _+ℤ_, _-ℤ_, _*ℤ_}
+use lib.Signed.{_≤ℤ_, _<ℤ_}
+use lib.ListN.{length}
+use Rattle.integers.specs.Promise.{Floor, magnitude, withSign}
+use Rattle.cubic.specs.Piece.{unit, slopeAt, riseAt}
 use Rattle.rules.specs.Limits.{WidthWithin, RiseWithin}
-use Rattle.rules.specs.Refusals.{Given, done, passed}
-use Rattle.rules.specs.Order.{one-given, went-on, passes-at-0, kept, answer-right}
 use Rattle.table.specs.declared.changed.Change.{Change}
-use Rattle.table.specs.Table.{Table, table, entry, step, Holds, not-monotone, buildOrder, checkOrder}
-use Rattle.table.specs.Accepted.{accepted-table}
-use Rattle.table.specs.Changed.{changedBy}
-use Rattle.table.specs.AfterChange.{as-changed}
-use Rattle.piece.specs.declared.Verdict.{Verdict}
-use Rattle.piece.specs.declared.Verdict.the-variants.{Rising, Falling, Flat, Bends}
-use Rattle.piece.specs.Promise.{answerOf, Judged, bent}
-use Rattle.piece.specs.Leaning.{is-rising, is-falling, is-flat}
-use Rattle.piece.specs.Determined.{one-verdict}
-use Rattle.slopes.specs.Slopes.{builtSlope, Built}
-use Rattle.slopes.specs.Put.{tab-length}
-use Rattle.slopes.specs.Determined.{one-build}
-use Rattle.slopes.specs.EveryPiece.{every-piece-of-a-built-table-is-monotone, a-built-table-passes-the-table-check}
-use Rattle.position.specs.Position.{Belongs}
-use Rattle.position.specs.Refused.{accepted-at}
-use Rattle.curve.specs.Curve.{Evaluated}
-use Rattle.change.specs.Change.{Changed}
-use Rattle.change.specs.Chain.{Chain, the-slopes-equal-those-built-afresh}
+use Rattle.table.specs.Table.{Table, table, entry, step, Holds}
+use Rattle.table.specs.Changed.{changedBy, HoldsAfter}
+use Rattle.piece.specs.Promise.{Word, rising, falling, flat}
+use Rattle.position.specs.Position.{Belongs, HoldsAt}
+use Rattle.drive.specs.Drive.{Told, HoldsFor}
 use Rattle.change.specs.Beside.{Near}
-use Rattle.change.specs.WhatIsWritten.{the-point-holds-the-new-knot, the-point-holds-the-new-value, the-slopes-at-it-and-beside-it-are-renewed, no-other-knot-changes, no-other-value-changes, no-other-slope-changes}
-use Rattle.change.specs.RefusedAsABuild.{made-only-then, made-then}
-use Rattle.demands.specs.First.{First, NoneHolds, refused-exactly, done-exactly}
-use Rattle.demands.specs.Calls.{Call, points, build, check, locate, evaluate, float-answer, point, orderOf, CauseOf, Answers, by-the-order}
-use Rattle.demands.specs.Rules.{EndRule, MeanRule}
-use Rattle.demands.specs.Shown.{opposite-ends, by-a-build, by-a-check, by-an-evaluation, by-a-float-answer, at-first, at-inner, at-last, value-floor, less-or-not}
-use Rattle.demands.specs.Cubic.{NoSlopeAgainstItsRise, RoundedDown, no-slope-against, monotone-without}
 
--- ======== 1. "Any points, slopes, positions and edits may come in, from any list of any length. Nothing traps, nothing is computed from a wrapped number, nobody is
--- asked to have tested first."
---
--- This is shown of the code itself. Of every function the prover shows, before it is compiled, that it ends and answers on every input, that no step traps, and that no
--- sum, difference, product, negation or cast leaves its type; and no function of `Call` has a `requires` (the public ones that have one serve the crates above them, which meet
--- it: docs/PROMISES.md, Exceptions). The promises speak of lists of any length, and of a width or a rise as the difference of two whole numbers. So two counts at
--- opposite ends of 32 bits, whose difference would wrap to 1, are refused, whatever the values, the slopes and the position, and so is a change that would put them there.
+-- ======== What an implementation is
 
--- the calls that ask a table, or what a change would leave
-pub data Asks (t : Table) : Call → Type 0 where
-  its-points : Asks t (points t)
-  a-build : Asks t (build t)
-  a-check : Asks t (check t)
-  a-piece : (x : ℤ) → Asks t (locate t x)
-  a-value : (x : ℤ) → Asks t (evaluate t x)
-  a-float-answer : (x : ℤ) → Asks t (float-answer t x)
-  a-change : {c : Change} {before : Table} → c .point < length (before .knots) → changedBy c before ≡ t → Asks t (point c before)
+-- A call, and what comes in: a piece, as its width, rise and two slopes; or the three lists as they are at the call, and a position or a change. A change also comes
+-- with the changes that were made before it since the table was built, the first one first: an implementation may remember them.
+pub data Call : Type 0 where
+  judge : (h z m n : ℤ) → Call
+  points build check : Table → Call
+  locate evaluate float-answer : Table → (position : ℤ) → Call
+  changed-points : Change → Table → Call
+  point : (made : List Change) → Change → Table → Call
 
-pub counts-at-opposite-ends-are-refused : {v w m n : ℤ} {call : Call} {number place : ℕ} → Asks (opposite-ends v w m n) call → Answers call number place → (number ≡ 3) × (place ≡ 0)
-counts-at-opposite-ends-are-refused {v} {w} {m} {n} asks a = one-given (by-the-order a) (given asks)
-  where
-    given : {call : Call} → Asks (opposite-ends v w m n) call → Given (CauseOf call) (orderOf call) 3 0
-    given its-points = by-a-build v w m n
-    given a-build = by-a-build v w m n
-    given a-check = by-a-check v w m n
-    given (a-piece x) = by-an-evaluation v w m n x
-    given (a-value x) = by-an-evaluation v w m n x
-    given (a-float-answer x) = by-a-float-answer v w m n x
-    given (a-change {c} {before} l e) = as-changed c before l (subst (λ (t : Table). Given (Holds t) buildOrder 3 0) (sym e) (by-a-build v w m n))
+-- What is answered beside the refusal: a verdict, a piece, a value, what the drive is told, or nothing.
+abbrev pub Reply : Call → Type 0
+Reply (judge h z m n) = Word
+Reply (points t) = Unit
+Reply (build t) = Unit
+Reply (check t) = Unit
+Reply (locate t x) = ℕ
+Reply (evaluate t x) = ℤ
+Reply (float-answer t x) = Told
+Reply (changed-points c t) = Unit
+Reply (point made c t) = Unit
 
--- ======== "Each refusal has its number and place by a fixed order, is given exactly when its cause holds and no earlier one does, and changes no lent list."
---
--- The orders stand in `orderOf`. `First` says that a cause holds at the place, at none before it, and that none of the causes before it in the order holds.
+-- The lists that are lent to be changed: to a build the slopes, to a change of a point all three. Every other list is lent to be read.
+abbrev pub Lists : Call → Type 0
+Lists (build t) = List ℤ
+Lists (point made c t) = Table
+Lists (judge h z m n) = Unit
+Lists (points t) = Unit
+Lists (check t) = Unit
+Lists (locate t x) = Unit
+Lists (evaluate t x) = Unit
+Lists (float-answer t x) = Unit
+Lists (changed-points c t) = Unit
 
-module _ {call : Call} {number place : ℕ} (a : Answers call number place) where
-  pub a-refusal-is-given-exactly-when-it-is-the-first : (c q : ℕ) → 0 < c → ((number ≡ c) × (place ≡ q)) ↔ First (CauseOf call) (orderOf call) c q
-  a-refusal-is-given-exactly-when-it-is-the-first = refused-exactly (by-the-order a)
+-- as they are at the call
+abbrev pub lent : (call : Call) → Lists call
+lent (build t) = t .slopes
+lent (point made c t) = t
+lent (judge h z m n) = tt
+lent (points t) = tt
+lent (check t) = tt
+lent (locate t x) = tt
+lent (evaluate t x) = tt
+lent (float-answer t x) = tt
+lent (changed-points c t) = tt
 
-  pub nothing-is-refused-exactly-when-no-cause-holds : (number ≡ 0) ↔ NoneHolds (CauseOf call) (orderOf call)
-  nothing-is-refused-exactly-when-no-cause-holds = done-exactly (by-the-order a)
+-- What comes out: the number of the refusal, 0 for none, its place, the answer, and these lists when the call returns.
+pub record Outcome (call : Call) : Type 0 where
+  pub number : ℕ
+  pub place : ℕ
+  pub answer : Reply call
+  pub lists : Lists call
 
-  pub and-then-the-place-is-0 : number ≡ 0 → place ≡ 0
-  and-then-the-place-is-0 e = passes-at-0 e (by-the-order a)
+-- An implementation says of each call what it asks of its caller, and what may come out.
+pub record Implementation : Type 1 where
+  pub Asks : Call → Type 0
+  pub May : (call : Call) → Outcome call → Type 0
 
--- `build` may write to the slopes, and `point` to the three lists; every other list is lent to be read only.
-pub a-refused-build-changes-no-list : {knots values before after : List ℤ} {number place : ℕ} → Built knots values before after number place → (number ≡ 0 → ⊥) → after ≡ before
-a-refused-build-changes-no-list b f = b .slopes ∙ sym (kept _ _ f)
+-- ======== The first demand
 
-pub a-refused-change-changes-no-list : {c : Change} {before after : Table} {number place : ℕ} → Changed c before after number place → (number ≡ 0 → ⊥) → after ≡ before
-a-refused-change-changes-no-list c f =
-    let knots = c .knots ∙ sym (kept _ _ f) in
-    let values = c .values ∙ sym (kept _ _ f) in
-    let slopes = c .slopes ∙ sym (kept _ _ f) in
-    λ i. record { knots = knots i; values = values i; slopes = slopes i }
+-- "The number given is the first cause that holds in this order"
+abbrev pub orderOf : Call → List ℕ
+orderOf (judge h z m n) = 3 ∷ 4 ∷ []
+orderOf (points t) = 1 ∷ 2 ∷ 3 ∷ 4 ∷ []
+orderOf (build t) = 1 ∷ 2 ∷ 3 ∷ 4 ∷ []
+orderOf (check t) = 1 ∷ 2 ∷ 3 ∷ 4 ∷ 5 ∷ []
+orderOf (locate t x) = 1 ∷ 2 ∷ 3 ∷ 4 ∷ 5 ∷ 6 ∷ []
+orderOf (evaluate t x) = 1 ∷ 2 ∷ 3 ∷ 4 ∷ 5 ∷ 6 ∷ []
+orderOf (float-answer t x) = 1 ∷ 2 ∷ 3 ∷ 4 ∷ 5 ∷ 6 ∷ 8 ∷ []
+orderOf (changed-points c t) = 1 ∷ 2 ∷ 7 ∷ 3 ∷ 4 ∷ []
+orderOf (point made c t) = 1 ∷ 2 ∷ 7 ∷ 3 ∷ 4 ∷ []
 
--- ======== 2. "A piece within the limits gets a yes exactly when its cubic has no slope against its rise at any fraction of its width, or, without a rise, is level
--- throughout, whoever proposed the slopes."
+-- the causes of a piece alone, at place 0
+pub data HoldsAlone (h z : ℤ) : ℕ → ℕ → Type 0 where
+  width-outside : (WidthWithin h → ⊥) → HoldsAlone h z 3 0
+  rise-outside : (RiseWithin z → ⊥) → HoldsAlone h z 4 0
 
--- a yes: the piece is called by its rise, and not `Bends`
-pub data Yes (z : ℤ) : Verdict → Type 0 where
-  it-rises : pos 0 <ℤ z → Yes z Rising
-  it-falls : z <ℤ pos 0 → Yes z Falling
-  it-is-flat : z ≡ pos 0 → Yes z Flat
+-- when the cause with a number holds at a place
+abbrev pub CauseOf : Call → ℕ → ℕ → Type 0
+CauseOf (judge h z m n) = HoldsAlone h z
+CauseOf (points t) = Holds t
+CauseOf (build t) = Holds t
+CauseOf (check t) = Holds t
+CauseOf (locate t x) = HoldsAt t x
+CauseOf (evaluate t x) = HoldsAt t x
+CauseOf (float-answer t x) = HoldsFor t x
+CauseOf (changed-points c t) = HoldsAfter c t
+CauseOf (point made c t) = HoldsAfter c t
 
--- a piece alone, by `judge`
-pub a-piece-gets-a-yes-exactly-then : {h z m n : ℤ} (r : Verdict) → WidthWithin h → RiseWithin z → Judged h z m n (answerOf r) → Yes z r ↔ NoSlopeAgainstItsRise h z m n
-a-piece-gets-a-yes-exactly-then {h} {z} {m} {n} r w l j = (
-  λ y. no-slope-against (monotone-stable (λ f. not-bends y (one-verdict r Bends j (bent w l f)))),
-  λ s. let o = monotone-without s in
-      by-sign z (λ p. subst (Yes z) (one-verdict Rising r (is-rising w l p o) j) (it-rises p)) (λ p. subst (Yes z) (one-verdict Falling r (is-falling w l p o) j) (it-falls p))
-      (λ e. subst (Yes z) (one-verdict Flat r (is-flat w l e o) j) (it-is-flat e)),
-)
-  where
-    not-bends : Yes z r → r ≡ Bends → ⊥
-    not-bends y e = elim (subst (Yes z) e y) [ ]
+pub data Among (c : ℕ) : List ℕ → Type 0 where
+  here : {more : List ℕ} → Among c (c ∷ more)
+  behind : {d : ℕ} {more : List ℕ} → Among c more → Among c (d ∷ more)
 
--- and by `is_monotone`
-pub is-monotone-says-yes-exactly-then : {h z m n : ℤ} {b : Bool} → Decided (Monotone unit h z m n) b → (b ≡ true) ↔ NoSlopeAgainstItsRise h z m n
-is-monotone-says-yes-exactly-then d = (λ e. no-slope-against (told d e), λ s. one-decision d (holds (monotone-without s)))
+module _ (Cause : ℕ → ℕ → Type 0) where
+  -- no cause of a list holds anywhere
+  pub record NoneHolds (causes : List ℕ) : Type 0 where
+    pub none : (c place : ℕ) → Among c causes → Cause c place → ⊥
 
--- a piece of a table, with any slopes: 5 holds of it exactly when it has a slope against its rise
-abbrev pub NoSlopeAgainstAt : Table → ℕ → Type 0
-NoSlopeAgainstAt t i = NoSlopeAgainstItsRise (step (t .knots) i) (step (t .values) i) (entry (t .slopes) i) (entry (t .slopes) (i + 1))
+  -- "its cause holds and no earlier one does": c is a cause of the order, it holds at the place and at none before it, and none of the causes that stand before it in the
+  -- order holds anywhere
+  pub record First (order : List ℕ) (c place : ℕ) : Type 0 where
+    pub earlier : List ℕ
+    pub later : List ℕ
+    pub order-is : order ≡ earlier ++ c ∷ later
+    pub holds : Cause c place
+    pub at-no-place-before : (q : ℕ) → q < place → Cause c q → ⊥
+    pub no-earlier-one : NoneHolds earlier
 
-pub cause-5-holds-exactly-then : {t : Table} {i : ℕ} → Holds t 5 i ↔ ((i + 1 < length (t .knots)) × (NoSlopeAgainstAt t i → ⊥))
-cause-5-holds-exactly-then {t} {i} = (into, λ p. not-monotone (p .0) (λ o. p .1 (no-slope-against o)))
-  where
-    into : Holds t 5 i → (i + 1 < length (t .knots)) × (NoSlopeAgainstAt t i → ⊥)
-    into (not-monotone l f) = (l, λ s. f (monotone-without s))
+-- two points whose counts lie at opposite ends of 32 bits: their difference would wrap to 1
+abbrev pub opposite-ends : (v w m n : ℤ) → Table
+opposite-ends v w m n = table (pos 2147483647 ∷ negsuc 2147483647 ∷ []) (v ∷ w ∷ []) (m ∷ n ∷ [])
 
--- so a table whose points are within the limits passes the check exactly when no piece has one
+-- the calls that look at a table, or would leave one
+pub data LooksAt (t : Table) : Call → Type 0 where
+  its-points : LooksAt t (points t)
+  a-build : LooksAt t (build t)
+  a-check : LooksAt t (check t)
+  a-piece : (x : ℤ) → LooksAt t (locate t x)
+  a-value : (x : ℤ) → LooksAt t (evaluate t x)
+  a-float-answer : (x : ℤ) → LooksAt t (float-answer t x)
+  its-changed-points : {c : Change} {before : Table} → c .point < length (before .knots) → changedBy c before ≡ t → LooksAt t (changed-points c before)
+  a-change : {made : List Change} {c : Change} {before : Table} → c .point < length (before .knots) → changedBy c before ≡ t → LooksAt t (point made c before)
+
+pub record Demand1 (I : Implementation) : Type 0 where
+  -- "Any points, slopes, positions and edits may come in, from any list of any length. Nothing traps, nothing is computed from a wrapped number,"
+  --
+  -- Lists here are of any length and hold any numbers. That a call ends, that no step of it traps and that no sum, difference, product, negation or cast leaves its type is
+  -- nothing that an answer could show: the prover shows it of every function before it is compiled. What an answer can show is the sum that the label on the cabinet
+  -- speaks of: counts at opposite ends of 32 bits are refused, by whatever call looks at them or would put them there.
+  pub counts-at-opposite-ends-are-refused : {v w m n : ℤ} {call : Call} {o : Outcome call} → LooksAt (opposite-ends v w m n) call → I .May call o → (o .number ≡ 3) × (o .place ≡ 0)
+  -- "and nobody is asked to have tested first."
+  pub nobody-is-asked : (call : Call) → I .Asks call
+  -- "Each refusal has its number and place by a fixed order, is given exactly when its cause holds and no earlier one does,"
+  pub refused-exactly-then : {call : Call} {o : Outcome call} → I .May call o → (c q : ℕ) → 0 < c → ((o .number ≡ c) × (o .place ≡ q)) ↔ First (CauseOf call) (orderOf call) c q
+  pub done-at-place-0 : {call : Call} {o : Outcome call} → I .May call o → o .number ≡ 0 → o .place ≡ 0
+  -- "and changes no list we lent you."
+  pub changes-no-list : {call : Call} {o : Outcome call} → I .May call o → (o .number ≡ 0 → ⊥) → o .lists ≡ lent call
+
+-- ======== The second demand
+
+-- a yes: the piece is called by its rise, and not `bends`
+pub data Yes (z : ℤ) : Word → Type 0 where
+  it-rises : pos 0 <ℤ z → Yes z rising
+  it-falls : z <ℤ pos 0 → Yes z falling
+  it-is-flat : z ≡ pos 0 → Yes z flat
+
+module _ (h z m n : ℤ) where
+  -- the slope of the piece's cubic at the fraction k/q of its width, times 256·h·q², and what the cubic has risen by up to there, times 256·q³
+  abbrev pub slope : (k q : ℕ) → ℤ
+  slope k q = slopeAt (unit *ℤ z) (m *ℤ h) (n *ℤ h) (pos k) (pos q)
+
+  abbrev pub rise : (k q : ℕ) → ℤ
+  rise k q = riseAt (unit *ℤ z) (m *ℤ h) (n *ℤ h) (pos k) (pos q)
+
+  -- "its cubic has no slope against its rise at any fraction of its width, or, without a rise, is level throughout"
+  pub record NoSlopeAgainstItsRise : Type 0 where
+    pub while-rising : pos 0 <ℤ z → (k q : ℕ) → 1 ≤ q → k ≤ q → pos 0 ≤ℤ slope k q
+    pub while-falling : z <ℤ pos 0 → (k q : ℕ) → 1 ≤ q → k ≤ q → slope k q ≤ℤ pos 0
+    pub while-level : z ≡ pos 0 → (k q : ℕ) → 1 ≤ q → k ≤ q → rise k q ≡ pos 0
+
+  -- w is what the cubic has risen by, t counts into the piece, rounded down: w·d ≤ n < (w + 1)·d, where n/d is the cubic
+  abbrev pub RoundedDown : (t w : ℤ) → Type 0
+  RoundedDown t w = Floor (riseAt (unit *ℤ z) (m *ℤ h) (n *ℤ h) t h) (unit *ℤ (h *ℤ h *ℤ h)) w
+
+-- every piece of a table, with the slopes that it has, is so
 abbrev pub NoneAgainst : Table → Type 0
-NoneAgainst t = (i : ℕ) → i + 1 < length (t .knots) → NoSlopeAgainstAt t i
+NoneAgainst t = (i : ℕ) → i + 1 < length (t .knots) → NoSlopeAgainstItsRise (step (t .knots) i) (step (t .values) i) (entry (t .slopes) i) (entry (t .slopes) (i + 1))
 
-pub a-table-gets-a-yes-exactly-then : {t : Table} {number place q : ℕ} → Given (Holds t) buildOrder 0 q → Given (Holds t) checkOrder number place → (number ≡ 0) ↔ NoneAgainst t
-a-table-gets-a-yes-exactly-then {t} limits g = (
-  λ e i l. no-slope-against (accepted-table e g .pieces i l),
-  λ s. one-given g (went-on refl limits (passed (no-bend s) done)) .0,
-)
-  where
-    no-bend : NoneAgainst t → (i : ℕ) → Holds t 5 i → ⊥
-    no-bend s i (not-monotone l f) = f (monotone-without (s i l))
+-- document 01's rule at the ends, "256·z/h rounded toward zero": its size is 256·|z|/h, rounded down, and its sign that of the rise
+pub record EndRule (h z s : ℤ) : Type 0 where
+  pub size : Floor (pos 256 *ℤ magnitude z) h (magnitude s)
+  pub sign : s ≡ withSign z (magnitude s)
 
--- ======== "Slopes we build are Fritsch and Butland's mean at inner points and document 01's rule at the ends, and get a yes always."
+-- Fritsch and Butland's mean: "If z1·z2 ≤ 0 its slope is 0. Otherwise, with magnitudes of z1 and z2, it is
+-- 768·(h1 + h2)·z1·z2 / ((h1 + 2·h2)·h1·z2 + (2·h1 + h2)·h2·z1) rounded down, then given the sign of the rises."
+pub record MeanRule (h₁ z₁ h₂ z₂ s : ℤ) : Type 0 where
+  pub apart : (z₁ *ℤ z₂) ≤ℤ pos 0 → s ≡ pos 0
+  pub size : pos 0 <ℤ (z₁ *ℤ z₂) → Floor (pos 768 *ℤ (h₁ +ℤ h₂) *ℤ magnitude z₁ *ℤ magnitude z₂) ((h₁ +ℤ pos 2 *ℤ h₂) *ℤ h₁ *ℤ magnitude z₂ +ℤ (pos 2 *ℤ h₁ +ℤ h₂) *ℤ h₂ *ℤ magnitude z₁) (magnitude s)
+  pub sign : pos 0 <ℤ (z₁ *ℤ z₂) → s ≡ withSign z₁ (magnitude s)
 
--- The first point and the last have the rule at the ends, of the first piece and of the last, and a point between two pieces the mean (`Rules.antt`).
+-- the slope s at point i keeps its rule: at the first point and at the last that of the ends, for the end piece, and between two pieces the mean
+pub record RightSlope (knots values : List ℤ) (i : ℕ) (s : ℤ) : Type 0 where
+  pub first : i ≡ 0 → EndRule (step knots 0) (step values 0) s
+  pub inner : (j : ℕ) → i ≡ j + 1 → i + 1 < length knots → MeanRule (step knots j) (step values j) (step knots i) (step values i) s
+  pub last : (j : ℕ) → i ≡ j + 1 → i + 1 ≡ length knots → EndRule (step knots j) (step values j) s
+
 pub record RightSlopes (knots values slopes : List ℤ) : Type 0 where
   pub as-many : length slopes ≡ length knots
-  pub first : EndRule (step knots 0) (step values 0) (entry slopes 0)
-  pub inner : (i : ℕ) → i + 2 < length knots → MeanRule (step knots i) (step values i) (step knots (i + 1)) (step values (i + 1)) (entry slopes (i + 1))
-  pub last : (i : ℕ) → i + 2 ≡ length knots → EndRule (step knots i) (step values i) (entry slopes (i + 1))
+  pub each : (i : ℕ) → i < length knots → RightSlope knots values i (entry slopes i)
 
-module _ {knots values before after : List ℤ} {place : ℕ} (b : Built knots values before after 0 place) where
-  pub slopes-we-build-are-the-right-ones : RightSlopes knots values after
-  slopes-we-build-are-the-right-ones =
-      record { as-many = ap length (b .slopes) ∙ tab-length (length knots) (builtSlope knots values); first = at-first b; inner = at-inner b; last = at-last b }
-
-  pub slopes-we-build-have-none-against : NoneAgainst (table knots values after)
-  slopes-we-build-have-none-against i l = no-slope-against (every-piece-of-a-built-table-is-monotone b i l)
-
-  pub slopes-we-build-get-a-yes-always : {number q : ℕ} → Given (Holds (table knots values after)) checkOrder number q → (number ≡ 0) × (q ≡ 0)
-  slopes-we-build-get-a-yes-always g = one-given g (a-built-table-passes-the-table-check b)
-
--- ======== "The position answered is the exact cubic, rounded down."
-
--- on the piece that the position belongs to, v is the left value and what the cubic has risen by since, rounded down
+-- on the piece that the position x belongs to, v is the left value and what the cubic has risen by since, rounded down
 pub record ExactRoundedDown (t : Table) (x v : ℤ) : Type 0 where
   pub piece : ℕ
   pub belongs : Belongs (t .knots) x piece
   pub rounded-down : RoundedDown (step (t .knots) piece) (step (t .values) piece) (entry (t .slopes) piece) (entry (t .slopes) (piece + 1)) (x -ℤ entry (t .knots) piece) (v -ℤ entry (t .values) piece)
 
-pub the-position-answered-is-the-exact-cubic-rounded-down : {t : Table} {x v : ℤ} {place : ℕ} → Evaluated t x 0 place v → ExactRoundedDown t x v
-the-position-answered-is-the-exact-cubic-rounded-down e =
-    let at = answer-right refl (e .value) in
-    record { piece = at .piece; belongs = at .belongs; rounded-down = value-floor (accepted-at refl (e .refusal)) (at .belongs) (at .is) }
+pub record Demand2 (I : Implementation) : Type 0 where
+  -- "A piece within the limits gets a yes exactly when its cubic has no slope against its rise at any fraction of its width, or, without a rise, is level throughout,
+  -- whoever proposed the slopes."
+  pub a-piece-gets-a-yes-exactly-then : {h z m n : ℤ} {o : Outcome (judge h z m n)} → WidthWithin h → RiseWithin z → I .May (judge h z m n) o → Yes z (o .answer) ↔ NoSlopeAgainstItsRise h z m n
+  pub so-does-a-table : {t : Table} {o : Outcome (check t)} → NoneHolds (Holds t) (1 ∷ 2 ∷ 3 ∷ 4 ∷ []) → I .May (check t) o → (o .number ≡ 0) ↔ NoneAgainst t
+  -- "Slopes you build are Fritsch and Butland's mean at inner points and document 01's rule at the two ends, in its units,"
+  pub slopes-you-build : {t : Table} {o : Outcome (build t)} → I .May (build t) o → o .number ≡ 0 → RightSlopes (t .knots) (t .values) (o .lists)
+  -- "and get a yes always."
+  pub get-a-yes-always : {t : Table} {o : Outcome (build t)} {p : Outcome (check (table (t .knots) (t .values) (o .lists)))}
+      → I .May (build t) o → o .number ≡ 0 → I .May (check (table (t .knots) (t .values) (o .lists))) p → p .number ≡ 0
+  -- "The position you answer is the exact cubic, rounded down."
+  pub the-position-you-answer : {t : Table} {x : ℤ} {o : Outcome (evaluate t x)} → I .May (evaluate t x) o → o .number ≡ 0 → ExactRoundedDown t x (o .answer)
 
--- ======== 3. "Change one point of a table whose slopes we built, any number of times, refused changes among them: the slopes then equal those built afresh."
+-- ======== The third demand
 
--- A build leaves slopes; any list of changes is made; a build of the points that then stand there, over any list of as many slopes, is not refused, and leaves just the
--- slopes that stand there.
-pub after-any-changes-the-slopes-equal-those-built-afresh : {knots values before slopes : List ℤ} {place : ℕ} {changes : List Change} {t : Table} {again afresh : List ℤ} {number q : ℕ}
-    → Built knots values before slopes 0 place → Chain changes (table knots values slopes) t → length again ≡ length (t .knots) → Built (t .knots) (t .values) again afresh number q
-    → (number ≡ 0) × (t .slopes ≡ afresh)
-after-any-changes-the-slopes-equal-those-built-afresh built chain e b =
-    let same = one-build b (the-slopes-equal-those-built-afresh built chain e) in (same .0, sym (same .2))
+-- A list of changes, made one after another: each of the table that the one before it left, with whatever it answers. `made` are those that were made before.
+pub data ChainOf (I : Implementation) : (made : List Change) → List Change → (before after : Table) → Type 0 where
+  none : {made : List Change} {t : Table} → ChainOf I made [] t t
+  next : {made : List Change} {c : Change} {more : List Change} {t after : Table} {o : Outcome (point made c t)} → I .May (point made c t) o → ChainOf I (made ++ c ∷ []) more (o .lists) after
+      → ChainOf I made (c ∷ more) t after
 
--- ======== "Each accepted change puts the new knot and value there, renews the slopes at it and beside it, and touches nothing else."
-
--- `Near k i` says that i is k − 1, k or k + 1
 pub record JustThis (c : Change) (before after : Table) : Type 0 where
+  -- "puts the new knot and value at that point,"
   pub knot : entry (after .knots) (c .point) ≡ c .knot
   pub value : entry (after .values) (c .point) ≡ c .value
-  pub slopes-near : (i : ℕ) → i < length (before .knots) → Near (c .point) i → entry (after .slopes) i ≡ builtSlope (after .knots) (after .values) i
+  -- "renews the slopes at it and beside it,"
+  pub slopes-near : (i : ℕ) → i < length (before .knots) → Near (c .point) i → RightSlope (after .knots) (after .values) i (entry (after .slopes) i)
+  -- "and touches nothing else."
   pub other-knots : (i : ℕ) → (i ≡ c .point → ⊥) → entry (after .knots) i ≡ entry (before .knots) i
   pub other-values : (i : ℕ) → (i ≡ c .point → ⊥) → entry (after .values) i ≡ entry (before .values) i
   pub other-slopes : (i : ℕ) → i < length (before .knots) → (Near (c .point) i → ⊥) → entry (after .slopes) i ≡ entry (before .slopes) i
-  pub lengths-kept : (length (after .knots) ≡ length (before .knots)) × (length (after .values) ≡ length (before .values)) × (length (after .slopes) ≡ length (before .slopes))
+  pub as-many-knots : length (after .knots) ≡ length (before .knots)
+  pub as-many-values : length (after .values) ≡ length (before .values)
+  pub as-many-slopes : length (after .slopes) ≡ length (before .slopes)
 
-pub an-accepted-change-does-just-this : {c : Change} {before after : Table} {place : ℕ} → Changed c before after 0 place → JustThis c before after
-an-accepted-change-does-just-this {c} {before} change =
-    record {
-      knot = the-point-holds-the-new-knot change;
-      value = the-point-holds-the-new-value change;
-      slopes-near = the-slopes-at-it-and-beside-it-are-renewed change;
-      other-knots = no-other-knot-changes change;
-      other-values = no-other-value-changes change;
-      other-slopes = no-other-slope-changes change;
-      lengths-kept = (
-        ap length (change .knots) ∙ length-set (before .knots) (c .point) (c .knot),
-        ap length (change .values) ∙ length-set (before .values) (c .point) (c .value),
-        ap length (change .slopes) ∙ tab-length (length (before .slopes)) _,
-      );
-    }
-
--- ======== "It is refused exactly when a fresh build of the changed points would be, or the point isn't there."
-
--- The fresh build is over the same slope list.
-module _ {c : Change} {before after : Table} {built : List ℤ} {number place m q : ℕ} (change : Changed c before after number place) (build : Built (changedBy c before .knots) (changedBy c before .values) (before .slopes) built m q) where
-  pub a-change-is-refused-exactly-then : (number ≡ 0 → ⊥) ↔ ((m ≡ 0 → ⊥) ⊎ (length (before .knots) ≤ c .point))
-  a-change-is-refused-exactly-then = (
-    λ f. ⊎-elim (λ l. inl (λ e. f (made-then change build l e))) inr (less-or-not (c .point) (length (before .knots))),
-    λ r e. let made = made-only-then change build e in ⊎-elim (λ g. g (made .1)) (λ l. absurd (omega (arith, l, made .0))) r,
-  )
+pub record Demand3 (I : Implementation) : Type 0 where
+  -- "Change one point of a table whose slopes you built, any number of times, refused changes among them: the slopes then equal those built afresh from the points as they
+  -- stand."
+  --
+  -- A build leaves slopes; any list of changes is made; a build of the points as they then stand, over any list of as many slopes, is not refused, and leaves just the
+  -- slopes that stand there.
+  pub the-slopes-equal-those-built-afresh : {t : Table} {o : Outcome (build t)} {changes : List Change} {u : Table} {again : List ℤ} {p : Outcome (build (table (u .knots) (u .values) again))}
+      → I .May (build t) o → o .number ≡ 0 → ChainOf I [] changes (table (t .knots) (t .values) (o .lists)) u → length again ≡ length (u .knots)
+      → I .May (build (table (u .knots) (u .values) again)) p → (p .number ≡ 0) × (p .lists ≡ u .slopes)
+  -- "Each accepted change puts the new knot and value at that point, renews the slopes at it and beside it, and touches nothing else."
+  pub each-accepted-change-does-just-this : {made : List Change} {c : Change} {t : Table} {o : Outcome (point made c t)} → I .May (point made c t) o → o .number ≡ 0 → JustThis c t (o .lists)
+  -- "It is refused exactly when a fresh build of the changed points would be, or the point isn't there."
+  pub refused-exactly-as-a-build : {made : List Change} {c : Change} {t : Table} {o : Outcome (point made c t)} {p : Outcome (build (changedBy c t))} → I .May (point made c t) o
+      → I .May (build (changedBy c t)) p → (o .number ≡ 0 → ⊥) ↔ ((p .number ≡ 0 → ⊥) ⊎ (length (t .knots) ≤ c .point))

@@ -1,8 +1,11 @@
-pub mod Calls
+pub mod ByOrder
 pub mod Cubic
 pub mod Demands
-pub mod Determined
-pub mod First
+pub mod Kept
+pub mod Met
+pub mod Ours
 pub mod Rules
 pub mod Shown
 pub mod Sixteen
+pub mod SixteenGiven
+pub mod Ties

@@ -1,4 +1,4 @@
--- The two rules for slopes, by what a slope is and not by how it is worked out.
+-- The slopes that are built keep the two rules, which say what a slope is and not how it is worked out.
 use mathlib.Core.Path.{_≡_, refl, sym, _∙_, ap, subst}
 use Prim.Native.Nat.{zero, suc}
 use lib.IntN.{ℤ, pos, negsuc, _+ℤ_, _*ℤ_, *ℤ-comm}
@@ -10,20 +10,7 @@ use Rattle.integers.specs.Division.{floor-of, 0≤-floor, toward-scaled}
 use Rattle.cubic.specs.Piece.{unit}
 use Rattle.cubic.specs.Slopes.{endSlope, meanAbove, meanBelow, innerSlope}
 use Rattle.cubic.specs.Inner.{inner-level, inner-steep}
-
--- "256·z/h rounded toward zero": its size is 256·|z|/h, rounded down, and its sign that of the rise
-pub record EndRule (h z s : ℤ) : Type 0 where
-  pub size : Floor (pos 256 *ℤ magnitude z) h (magnitude s)
-  pub sign : s ≡ withSign z (magnitude s)
-
--- "If z1·z2 ≤ 0 its slope is 0. Otherwise, with magnitudes of z1 and z2, it is 768·(h1 + h2)·z1·z2 / ((h1 + 2·h2)·h1·z2 + (2·h1 + h2)·h2·z1) rounded down, then given
--- the sign of the rises."
-pub record MeanRule (h₁ z₁ h₂ z₂ s : ℤ) : Type 0 where
-  pub apart : (z₁ *ℤ z₂) ≤ℤ pos 0 → s ≡ pos 0
-  pub size : pos 0 <ℤ (z₁ *ℤ z₂) → Floor (pos 768 *ℤ (h₁ +ℤ h₂) *ℤ magnitude z₁ *ℤ magnitude z₂) ((h₁ +ℤ pos 2 *ℤ h₂) *ℤ h₁ *ℤ magnitude z₂ +ℤ (pos 2 *ℤ h₁ +ℤ h₂) *ℤ h₂ *ℤ magnitude z₁) (magnitude s)
-  pub sign : pos 0 <ℤ (z₁ *ℤ z₂) → s ≡ withSign z₁ (magnitude s)
-
--- ---- the slopes that are built keep them
+use Rattle.demands.specs.Demands.{EndRule, MeanRule}
 
 signed-size : (z f : ℤ) → pos 0 ≤ℤ f → magnitude (withSign z f) ≡ f
 signed-size (pos n) (pos f) l = refl

@@ -1,4 +1,4 @@
--- What the demands say of single cases: two counts at opposite ends of 32 bits, the slope at each point, the value on a piece.
+-- What the demands say of single cases: two counts at opposite ends of 32 bits, the slope at a point, the value on a piece.
 use mathlib.Core.Path.{_≡_, refl, sym, _∙_, ap, subst}
 use mathlib.Core.Bool.{Bool, true, false, not}
 use mathlib.Core.Logic.{_⊎_, inl, inr}
@@ -6,7 +6,7 @@ use mathlib.Core.List.{List, [], _∷_}
 use Prim.Native.Nat.{ℕ, _+_, _-_, _<_, _≤_}
 use native.Mathlib.Omega.{arith}
 use lib.Dec.{T, leb, leb→le, nleb→lt}
-use lib.IntN.{ℤ, pos, negsuc, _+ℤ_, _-ℤ_}
+use lib.IntN.{ℤ, pos, _+ℤ_, _-ℤ_}
 use lib.Signed.{_<ℤ_, ltZ-yes}
 use lib.ListN.{length}
 use Rattle.integers.specs.Promise.{Floor}
@@ -18,11 +18,10 @@ use Rattle.cubic.specs.Value.{denominator}
 use Rattle.rules.specs.Known.{0<-width}
 use Rattle.rules.specs.Refusals.{Given}
 use Rattle.rules.specs.Order.{stopped}
-use Rattle.table.specs.Table.{Table, table, entry, step, Holds, buildOrder, checkOrder}
-use Rattle.table.specs.Accepted.{Points, Accepted, accepted-points}
-use Rattle.slopes.specs.Slopes.{endAt, innerAt, builtSlope, Built}
+use Rattle.table.specs.Table.{Table, entry, step, Holds, buildOrder, checkOrder}
+use Rattle.table.specs.Accepted.{Points, Accepted}
+use Rattle.slopes.specs.Slopes.{innerAt, endAt, builtSlope}
 use Rattle.slopes.specs.Cases.{first-slope, inner-slope, last-slope}
-use Rattle.slopes.specs.Put.{tab-entry}
 use Rattle.slopes.specs.Figures.{ends-of-32-bits-are-refused}
 use Rattle.position.specs.Position.{Belongs, HoldsAt, evaluationOrder}
 use Rattle.position.specs.Pieces.{within-list}
@@ -30,55 +29,45 @@ use Rattle.position.specs.Refused.{as-checked}
 use Rattle.curve.specs.Curve.{valueOn}
 use Rattle.drive.specs.Drive.{HoldsFor, floatOrder}
 use Rattle.drive.specs.Refused.{as-evaluated}
-use Rattle.demands.specs.Rules.{EndRule, MeanRule, end-rule, mean-rule}
-use Rattle.demands.specs.Cubic.{RoundedDown}
+use Rattle.demands.specs.Demands.{opposite-ends, EndRule, MeanRule, RightSlope, RoundedDown}
+use Rattle.demands.specs.Rules.{end-rule, mean-rule}
 
 -- ---- two counts at opposite ends of 32 bits
 
 module _ (v w m n : ℤ) where
-  abbrev pub opposite-ends : Table
-  opposite-ends = table (pos 2147483647 ∷ negsuc 2147483647 ∷ []) (v ∷ w ∷ []) (m ∷ n ∷ [])
-
-  pub by-a-build : Given (Holds opposite-ends) buildOrder 3 0
+  pub by-a-build : Given (Holds (opposite-ends v w m n)) buildOrder 3 0
   by-a-build = ends-of-32-bits-are-refused v w m n
 
-  pub by-a-check : Given (Holds opposite-ends) checkOrder 3 0
+  pub by-a-check : Given (Holds (opposite-ends v w m n)) checkOrder 3 0
   by-a-check = stopped (5 ∷ []) (λ e. omega arith) by-a-build
 
-  pub by-an-evaluation : (x : ℤ) → Given (HoldsAt opposite-ends x) evaluationOrder 3 0
+  pub by-an-evaluation : (x : ℤ) → Given (HoldsAt (opposite-ends v w m n) x) evaluationOrder 3 0
   by-an-evaluation x = stopped (6 ∷ []) (λ e. omega arith) (as-checked by-a-check)
 
-  pub by-a-float-answer : (x : ℤ) → Given (HoldsFor opposite-ends x) floatOrder 3 0
+  pub by-a-float-answer : (x : ℤ) → Given (HoldsFor (opposite-ends v w m n) x) floatOrder 3 0
   by-a-float-answer x = stopped (8 ∷ []) (λ e. omega arith) (as-evaluated (by-an-evaluation x))
 
--- ---- the slope at the first point, at one between two others, and at the last
+-- ---- the slope that a build gives a point keeps its rule
 
-module _ {ks vs before after : List ℤ} {place : ℕ} (b : Built ks vs before after 0 place) where
-  slope-at : (i : ℕ) → i < length ks → entry after i ≡ builtSlope ks vs i
-  slope-at i l = ap (λ (list : List ℤ). entry list i) (b .slopes) ∙ tab-entry (length ks) (builtSlope ks vs) i l
+pub right-slope : {ks vs : List ℤ} → Points ks vs → (i : ℕ) → RightSlope ks vs i (builtSlope ks vs i)
+right-slope {ks} {vs} p i = record { first = first; inner = inner; last = last }
+  where
+    first : i ≡ 0 → EndRule (step ks 0) (step vs 0) (builtSlope ks vs i)
+    first e = subst (EndRule (step ks 0) (step vs 0)) (first-slope ks vs i e) (end-rule (step vs 0) (0<-width (p .widths 0 (omega (arith, p .count .low)))))
 
-  back : (i : ℕ) → i + 1 - 1 ≡ i
-  back i = omega arith
+    before : (j : ℕ) → i ≡ j + 1 → j ≡ i - 1
+    before j e = omega arith
 
-  limits : Points ks vs
-  limits = accepted-points refl (b .refusal)
+    inner : (j : ℕ) → i ≡ j + 1 → i + 1 < length ks → MeanRule (step ks j) (step vs j) (step ks i) (step vs i) (builtSlope ks vs i)
+    inner j e l =
+        subst (MeanRule (step ks j) (step vs j) (step ks i) (step vs i))
+        (ap (λ (k : ℕ). innerAt ks vs k i) (before j e) ∙ inner-slope ks vs i (λ (z : i ≡ 0). omega arith) l)
+        (mean-rule (step vs j) (step vs i) (0<-width (p .widths j (omega arith))) (0<-width (p .widths i l)))
 
-  pub at-first : EndRule (step ks 0) (step vs 0) (entry after 0)
-  at-first =
-      let n = limits .count .low in
-      subst (EndRule (step ks 0) (step vs 0)) (first-slope ks vs 0 refl ∙ sym (slope-at 0 (omega (arith, n)))) (end-rule (step vs 0) (0<-width (limits .widths 0 (omega (arith, n)))))
-
-  pub at-inner : (i : ℕ) → i + 2 < length ks → MeanRule (step ks i) (step vs i) (step ks (i + 1)) (step vs (i + 1)) (entry after (i + 1))
-  at-inner i l =
-      subst (MeanRule (step ks i) (step vs i) (step ks (i + 1)) (step vs (i + 1)))
-      (ap (λ (j : ℕ). innerAt ks vs j (i + 1)) (sym (back i)) ∙ inner-slope ks vs (i + 1) (λ e. omega arith) (omega arith) ∙ sym (slope-at (i + 1) (omega arith)))
-      (mean-rule (step vs i) (step vs (i + 1)) (0<-width (limits .widths i (omega arith))) (0<-width (limits .widths (i + 1) (omega arith))))
-
-  pub at-last : (i : ℕ) → i + 2 ≡ length ks → EndRule (step ks i) (step vs i) (entry after (i + 1))
-  at-last i e =
-      subst (EndRule (step ks i) (step vs i))
-      (ap (endAt ks vs) (sym (back i)) ∙ last-slope ks vs (i + 1) (λ e. omega arith) (omega arith) ∙ sym (slope-at (i + 1) (omega arith)))
-      (end-rule (step vs i) (0<-width (limits .widths i (omega arith))))
+    last : (j : ℕ) → i ≡ j + 1 → i + 1 ≡ length ks → EndRule (step ks j) (step vs j) (builtSlope ks vs i)
+    last j e l =
+        subst (EndRule (step ks j) (step vs j)) (ap (endAt ks vs) (before j e) ∙ last-slope ks vs i (λ (z : i ≡ 0). omega arith) (omega arith))
+        (end-rule (step vs j) (0<-width (p .widths j (omega arith))))
 
 -- ---- the value on a piece is the exact cubic, rounded down, put on the left value
 

@@ -1,5 +1,5 @@
--- Which refusal is given, said of the order as a whole: the first cause that holds, at its first place. `Given`, by which the functions promise it, goes through the
--- order step by step; the two say the same.
+-- Which refusal is given: the demands say it of the order as a whole, the first cause that holds at its first place. `Given`, by which the functions promise it, goes
+-- through the order step by step; the two say the same.
 use mathlib.Core.Path.{_≡_, refl, sym, ap, subst, subst₂}
 use mathlib.Core.Logic.{_↔_}
 use mathlib.Core.List.{List, [], _∷_, _++_}
@@ -7,25 +7,7 @@ use Prim.Native.Nat.{ℕ, _<_}
 use native.Mathlib.Omega.{arith}
 use Rattle.rules.specs.Refusals.{Given, done, refused, passed}
 use Rattle.rules.specs.Order.{one-given, refused-by}
-
-pub data Among (c : ℕ) : List ℕ → Type 0 where
-  here : {more : List ℕ} → Among c (c ∷ more)
-  behind : {d : ℕ} {more : List ℕ} → Among c more → Among c (d ∷ more)
-
-module _ (Holds : ℕ → ℕ → Type 0) where
-  -- no cause of a list holds anywhere
-  pub record NoneHolds (causes : List ℕ) : Type 0 where
-    pub none : (c place : ℕ) → Among c causes → Holds c place → ⊥
-
-  -- "its cause holds and no earlier one does": c is a cause of the order, it holds at the place and at none before it, and none of the causes that stand before it in the
-  -- order holds anywhere
-  pub record First (order : List ℕ) (c place : ℕ) : Type 0 where
-    pub earlier : List ℕ
-    pub later : List ℕ
-    pub order-is : order ≡ earlier ++ c ∷ later
-    pub holds : Holds c place
-    pub at-no-place-before : (q : ℕ) → q < place → Holds c q → ⊥
-    pub no-earlier-one : NoneHolds earlier
+use Rattle.demands.specs.Demands.{Among, here, behind, NoneHolds, First}
 
 module _ {H : ℕ → ℕ → Type 0} where
   one-more : {c : ℕ} {causes : List ℕ} → ((q : ℕ) → H c q → ⊥) → NoneHolds H causes → NoneHolds H (c ∷ causes)
@@ -67,14 +49,7 @@ module _ {H : ℕ → ℕ → Type 0} where
     λ f. one-given g (first-given l f),
   )
 
-  -- and 0 exactly if no cause of the order holds
-  pub done-exactly : {order : List ℕ} {n p : ℕ} → Given H order n p → (n ≡ 0) ↔ NoneHolds H order
-  done-exactly {order} {p = p} g = (λ e. clear-all (subst (λ (n : ℕ). Given H order n p) e g), λ f. one-given g (all-clear f) .0)
-    where
-      clear-all : {order : List ℕ} {p : ℕ} → Given H order 0 p → NoneHolds H order
-      clear-all done = no-cause
-      clear-all (passed f g) = one-more f (clear-all g)
-
-      all-clear : {order : List ℕ} → NoneHolds H order → Given H order 0 0
-      all-clear {order = []} f = done
-      all-clear {order = c ∷ order} f = passed (λ q. f .none c q here) (all-clear (record { none = λ d q m. f .none d q (behind m) }))
+  -- and where no cause of the order holds, none is given
+  pub none-given : {order : List ℕ} → NoneHolds H order → Given H order 0 0
+  none-given {order = []} f = done
+  none-given {order = c ∷ order} f = passed (λ q. f .none c q here) (none-given (record { none = λ d q m. f .none d q (behind m) }))

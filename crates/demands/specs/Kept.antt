@@ -1,0 +1,117 @@
+-- What our functions promise, in the words of their definitions, for every call at once. Both our implementations keep it: for each call the contract is that promise.
+use mathlib.Core.Path.{_≡_, refl, sym, ap, subst}
+use Prim.Native.Nat.{ℕ, zero, suc}
+use native.Mathlib.Omega.{arith}
+use lib.IntN.{ℤ}
+use lib.Ieee.{Float}
+use Rattle.rules.specs.declared.Refusal.{Refusal}
+use Rattle.rules.specs.Refusals.{Given}
+use Rattle.table.specs.Table.{Table, Holds, buildOrder, checkOrder}
+use Rattle.table.specs.Changed.{HoldsAfter, changeOrder}
+use Rattle.piece.specs.Promise.{Word, rising, falling, flat, bends, none, answer, Judged}
+use Rattle.slopes.specs.Slopes.{Built}
+use Rattle.position.specs.Position.{Located}
+use Rattle.curve.specs.Curve.{Evaluated}
+use Rattle.drive.specs.Drive.{Told, dwell, move, Driving}
+use Rattle.change.specs.Change.{Changed}
+use Rattle.exports.specs.declared.answers.Told as Told'
+use Rattle.exports.specs.Cases.{verdictNumber, JudgedAs, judged, DrivenAs, dwells, moves}
+use Rattle.demands.specs.Demands.{Call, judge, points, build, check, locate, evaluate, float-answer, changed-points, point, Outcome, Implementation}
+use Rattle.demands.specs.Ours.{ours, ours-in-C, Judging, Telling, TellingC, CrossedAs, a-dwell, a-move}
+
+abbrev pub Promised : (call : Call) → Outcome call → Type 0
+Promised (judge h z m n) o = Judged h z m n (answer (o .number) (o .place) (o .answer))
+Promised (points t) o = Given (Holds t) buildOrder (o .number) (o .place)
+Promised (build t) o = Built (t .knots) (t .values) (t .slopes) (o .lists) (o .number) (o .place)
+Promised (check t) o = Given (Holds t) checkOrder (o .number) (o .place)
+Promised (locate t x) o = Located t x (o .number) (o .place) (o .answer)
+Promised (evaluate t x) o = Evaluated t x (o .number) (o .place) (o .answer)
+Promised (float-answer t x) o = Driving t x (o .number) (o .place) (o .answer)
+Promised (changed-points c t) o = Given (HoldsAfter c t) changeOrder (o .number) (o .place)
+Promised (point made c t) o = Changed c t (o .lists) (o .number) (o .place)
+
+pub record Keeps (I : Implementation) : Type 0 where
+  pub promised : (call : Call) (o : Outcome call) → I .May call o → Promised call o
+  pub free : (call : Call) → I .Asks call
+
+pub ours-keeps : Keeps ours
+ours-keeps = record { promised = promised; free = free }
+  where
+    promised : (call : Call) (o : Outcome call) → ours .May call o → Promised call o
+    promised (judge h z m n) o p = subst (Judged h z m n) (p .says) (p .promised)
+    promised (points t) o p = p
+    promised (build t) o p = p
+    promised (check t) o p = p
+    promised (locate t x) o p = p
+    promised (evaluate t x) o p = p
+    promised (float-answer t x) o p = subst (Driving t x (o .number) (o .place)) (p .says) (p .promised)
+    promised (changed-points c t) o p = p
+    promised (point made c t) o p = p
+
+    free : (call : Call) → ours .Asks call
+    free (judge h z m n) = tt
+    free (points t) = tt
+    free (build t) = tt
+    free (check t) = tt
+    free (locate t x) = tt
+    free (evaluate t x) = tt
+    free (float-answer t x) = tt
+    free (changed-points c t) = tt
+    free (point made c t) = tt
+
+-- ---- in C a verdict crosses as its number, and what the drive is told as a record
+
+abbrev named : ℕ → Word
+named zero = none
+named (suc zero) = rising
+named (suc (suc zero)) = falling
+named (suc (suc (suc zero))) = flat
+named (suc (suc (suc (suc n)))) = bends
+
+there-and-back : (w : Word) → named (verdictNumber w) ≡ w
+there-and-back rising = refl
+there-and-back falling = refl
+there-and-back flat = refl
+there-and-back bends = refl
+there-and-back none = refl
+
+by-number : {h z m n : ℤ} {k p v : ℕ} → JudgedAs h z m n k p v → Judged h z m n (answer k p (named v))
+by-number {h} {z} {m} {n} {k} {p} (judged {w} j) = subst (λ (w : Word). Judged h z m n (answer k p w)) (sym (there-and-back w)) j
+
+module _ {t : Table} {x : ℤ} {k p : ℕ} where
+  as-dwell : {kind : ℕ} {left above below : Float} → kind ≡ 0 → DrivenAs t x k p kind left above below → Driving t x k p (dwell left)
+  as-dwell e (dwells d nought one) = d
+  as-dwell e (moves d) = absurd (omega (arith, e))
+
+  as-move : {kind : ℕ} {left above below : Float} → kind ≡ 1 → DrivenAs t x k p kind left above below → Driving t x k p (move left above below)
+  as-move e (dwells d nought one) = absurd (omega (arith, e))
+  as-move e (moves d) = d
+
+crossed : {t : Table} {x : ℤ} {a : Told} {r : Told'.Told} → CrossedAs a r → DrivenAs t x (r .refusal .number) (r .refusal .place) (r .kind) (r .left) (r .numerator) (r .denominator) → Driving t x (r .refusal .number) (r .refusal .place) a
+crossed (a-dwell e) d = as-dwell e d
+crossed (a-move e) d = as-move e d
+
+pub ours-in-C-keeps : Keeps ours-in-C
+ours-in-C-keeps = record { promised = promised; free = free }
+  where
+    promised : (call : Call) (o : Outcome call) → ours-in-C .May call o → Promised call o
+    promised (judge h z m n) o p = subst (λ (w : Word). Judged h z m n (answer (o .number) (o .place) w)) (there-and-back (o .answer)) (by-number p)
+    promised (points t) o p = p
+    promised (build t) o p = p
+    promised (check t) o p = p
+    promised (locate t x) o p = p
+    promised (evaluate t x) o p = p
+    promised (float-answer t x) o p = subst (λ (r : Refusal). Driving t x (r .number) (r .place) (o .answer)) (p .refused-by) (crossed (p .says) (p .promised))
+    promised (changed-points c t) o p = p
+    promised (point made c t) o p = p
+
+    free : (call : Call) → ours-in-C .Asks call
+    free (judge h z m n) = tt
+    free (points t) = tt
+    free (build t) = tt
+    free (check t) = tt
+    free (locate t x) = tt
+    free (evaluate t x) = tt
+    free (float-answer t x) = tt
+    free (changed-points c t) = tt
+    free (point made c t) = tt

@@ -1,0 +1,202 @@
+-- Ours meets the three demands: the Rattle functions, and those that C links. Both keep what the definitions of their promises say (`Kept.antt`), and whatever keeps that
+-- meets the demands.
+use mathlib.Core.Path.{_≡_, refl, sym, _∙_, ap, subst, subst₂}
+use mathlib.Core.Logic.{_↔_, _⊎_, inl, inr, ⊎-elim}
+use mathlib.Core.List.{List, [], _∷_, _++_}
+use Prim.Native.Nat.{ℕ, _+_, _<_, _≤_}
+use native.Mathlib.Omega.{arith}
+use lib.IntN.{ℤ, pos}
+use lib.ListN.{length, length-set}
+use Rattle.cubic.specs.Monotone.{monotone-stable}
+use Rattle.rules.specs.Limits.{WidthWithin, RiseWithin}
+use Rattle.rules.specs.Refusals.{Given, done, refused, passed}
+use Rattle.rules.specs.Order.{one-given, went-on, passes-at-0, kept, answer-right}
+use Rattle.integers.specs.Signs.{by-sign}
+use Rattle.table.specs.declared.changed.Change.{Change}
+use Rattle.table.specs.Table.{Table, table, entry, Holds, not-monotone, buildOrder, checkOrder}
+use Rattle.table.specs.Accepted.{Points, accepted-points, accepted-table}
+use Rattle.table.specs.Changed.{changedBy}
+use Rattle.table.specs.AfterChange.{as-changed, accepted-then}
+use Rattle.piece.specs.Promise.{Word, bends, Answer, answer, Judged, width-refused, rise-refused, monotone, bent}
+use Rattle.piece.specs.Leaning.{is-rising, is-falling, is-flat}
+use Rattle.piece.specs.Determined.{one-answer}
+use Rattle.slopes.specs.Slopes.{builtSlope, Built}
+use Rattle.slopes.specs.Put.{tab-length, tab-entry}
+use Rattle.slopes.specs.Determined.{one-build}
+use Rattle.slopes.specs.EveryPiece.{a-built-table-passes-the-table-check}
+use Rattle.position.specs.Refused.{accepted-at}
+use Rattle.curve.specs.Curve.{Evaluated}
+use Rattle.change.specs.Change.{Changed}
+use Rattle.change.specs.Chain as Chain
+use Rattle.change.specs.WhatIsWritten.{the-point-holds-the-new-knot, the-point-holds-the-new-value, the-slopes-at-it-and-beside-it-are-renewed, no-other-knot-changes, no-other-value-changes, no-other-slope-changes}
+use Rattle.change.specs.RefusedAsABuild.{made-only-then, made-then}
+use Rattle.demands.specs.Demands.{Call, judge, points, build, check, locate, evaluate, float-answer, changed-points, point, Outcome, Implementation, orderOf, HoldsAlone, width-outside, rise-outside, CauseOf, NoneHolds, First, opposite-ends, LooksAt, its-points, a-build, a-check, a-piece, a-value, a-float-answer, its-changed-points, a-change, lent, Demand1, Yes, it-rises, it-falls, it-is-flat, NoSlopeAgainstItsRise, NoneAgainst, RightSlope, RightSlopes, ExactRoundedDown, Demand2, ChainOf, none, next, JustThis, Demand3}
+use Rattle.demands.specs.Ours.{ours, ours-in-C}
+use Rattle.demands.specs.Kept.{Promised, Keeps, ours-keeps, ours-in-C-keeps}
+use Rattle.demands.specs.ByOrder.{refused-exactly, none-given}
+use Rattle.demands.specs.Cubic.{no-slope-against, monotone-without}
+use Rattle.demands.specs.Shown.{by-a-build, by-a-check, by-an-evaluation, by-a-float-answer, right-slope, value-floor, less-or-not}
+
+-- ---- each call gives its refusal by one rule
+
+width-taken : {h z : ℤ} → WidthWithin h → (p : ℕ) → HoldsAlone h z 3 p → ⊥
+width-taken w p (width-outside f) = f w
+
+rise-taken : {h z : ℤ} → RiseWithin z → (p : ℕ) → HoldsAlone h z 4 p → ⊥
+rise-taken r p (rise-outside f) = f r
+
+alone : {h z m n : ℤ} {k p : ℕ} {word : Word} → Judged h z m n (answer k p word) → Given (HoldsAlone h z) (3 ∷ 4 ∷ []) k p
+alone (width-refused f) = refused (width-outside f) (λ _ l _. absurd (omega (arith, l)))
+alone (rise-refused w f) = passed (width-taken w) (refused (rise-outside f) (λ _ l _. absurd (omega (arith, l))))
+alone (monotone w r o) = passed (width-taken w) (passed (rise-taken r) done)
+alone (bent w r f) = passed (width-taken w) (passed (rise-taken r) done)
+
+pub by-the-order : (call : Call) (o : Outcome call) → Promised call o → Given (CauseOf call) (orderOf call) (o .number) (o .place)
+by-the-order (judge h z m n) o p = alone p
+by-the-order (points t) o p = p
+by-the-order (build t) o p = p .refusal
+by-the-order (check t) o p = p
+by-the-order (locate t x) o p = p .refusal
+by-the-order (evaluate t x) o p = p .refusal
+by-the-order (float-answer t x) o p = p .refusal
+by-the-order (changed-points c t) o p = p
+by-the-order (point made c t) o p = p .refusal
+
+-- ---- 1
+
+at-opposite-ends : {v w m n : ℤ} {call : Call} → LooksAt (opposite-ends v w m n) call → Given (CauseOf call) (orderOf call) 3 0
+at-opposite-ends {v} {w} {m} {n} its-points = by-a-build v w m n
+at-opposite-ends {v} {w} {m} {n} a-build = by-a-build v w m n
+at-opposite-ends {v} {w} {m} {n} a-check = by-a-check v w m n
+at-opposite-ends {v} {w} {m} {n} (a-piece x) = by-an-evaluation v w m n x
+at-opposite-ends {v} {w} {m} {n} (a-value x) = by-an-evaluation v w m n x
+at-opposite-ends {v} {w} {m} {n} (a-float-answer x) = by-a-float-answer v w m n x
+at-opposite-ends {v} {w} {m} {n} (its-changed-points {c} {before} l e) = as-changed c before l (subst (λ (t : Table). Given (Holds t) buildOrder 3 0) (sym e) (by-a-build v w m n))
+at-opposite-ends {v} {w} {m} {n} (a-change {c = c} {before} l e) = as-changed c before l (subst (λ (t : Table). Given (Holds t) buildOrder 3 0) (sym e) (by-a-build v w m n))
+
+untouched : (call : Call) (o : Outcome call) → Promised call o → (o .number ≡ 0 → ⊥) → o .lists ≡ lent call
+untouched (judge h z m n) o p f = refl
+untouched (points t) o p f = refl
+untouched (build t) o p f = p .slopes ∙ sym (kept _ _ f)
+untouched (check t) o p f = refl
+untouched (locate t x) o p f = refl
+untouched (evaluate t x) o p f = refl
+untouched (float-answer t x) o p f = refl
+untouched (changed-points c t) o p f = refl
+untouched (point made c t) o p f =
+    let knots = p .knots ∙ sym (kept _ _ f) in
+    let values = p .values ∙ sym (kept _ _ f) in
+    let slopes = p .slopes ∙ sym (kept _ _ f) in
+    λ i. record { knots = knots i; values = values i; slopes = slopes i }
+
+-- ---- 2
+
+abbrev said : Answer → Word
+said (answer number place word) = word
+
+a-piece-by-its-promise : {h z m n : ℤ} {number place : ℕ} {word : Word} → WidthWithin h → RiseWithin z → Judged h z m n (answer number place word) → Yes z word ↔ NoSlopeAgainstItsRise h z m n
+a-piece-by-its-promise {h} {z} {m} {n} {word = word} w l j = (
+  λ y. no-slope-against (monotone-stable (λ f. not-bends y (ap said (one-answer j (bent w l f))))),
+  λ s. let o = monotone-without s in
+      by-sign z (λ p. subst (Yes z) (ap said (one-answer (is-rising w l p o) j)) (it-rises p)) (λ p. subst (Yes z) (ap said (one-answer (is-falling w l p o) j)) (it-falls p))
+      (λ e. subst (Yes z) (ap said (one-answer (is-flat w l e o) j)) (it-is-flat e)),
+)
+  where
+    not-bends : Yes z word → word ≡ bends → ⊥
+    not-bends y e = elim (subst (Yes z) e y) [ ]
+
+a-table-by-its-promise : {t : Table} {number place : ℕ} → NoneHolds (Holds t) buildOrder → Given (Holds t) checkOrder number place → (number ≡ 0) ↔ NoneAgainst t
+a-table-by-its-promise {t} limits g = (
+  λ e i l. no-slope-against (accepted-table e g .pieces i l),
+  λ s. one-given g (went-on refl (none-given limits) (passed (no-bend s) done)) .0,
+)
+  where
+    no-bend : NoneAgainst t → (i : ℕ) → Holds t 5 i → ⊥
+    no-bend s i (not-monotone l f) = f (monotone-without (s i l))
+
+module _ {knots values before after : List ℤ} {number place : ℕ} (e : number ≡ 0) (b : Built knots values before after number place) where
+  done-so : Built knots values before after 0 place
+  done-so = subst (λ (n : ℕ). Built knots values before after n place) e b
+
+  its-slopes-are-right : RightSlopes knots values after
+  its-slopes-are-right =
+      record {
+        as-many = ap length (done-so .slopes) ∙ tab-length (length knots) (builtSlope knots values);
+        each = λ i l. subst (RightSlope knots values i) (sym (ap (λ (list : List ℤ). entry list i) (done-so .slopes) ∙ tab-entry (length knots) (builtSlope knots values) i l)) (right-slope (accepted-points refl (done-so .refusal)) i);
+      }
+
+its-value-is-exact : {t : Table} {x v : ℤ} {number place : ℕ} → number ≡ 0 → Evaluated t x number place v → ExactRoundedDown t x v
+its-value-is-exact e p =
+    let at = answer-right e (p .value) in
+    record { piece = at .piece; belongs = at .belongs; rounded-down = value-floor (accepted-at e (p .refusal)) (at .belongs) (at .is) }
+
+-- ---- 3
+
+-- the limits of the points that an accepted change leaves
+within-then : {c : Change} {before after : Table} {place : ℕ} → Changed c before after 0 place → Points (after .knots) (after .values)
+within-then {c} {before} change = subst₂ Points (sym (change .knots)) (sym (change .values)) (accepted-then c before refl (change .refusal))
+
+just-this : {c : Change} {before after : Table} {number place : ℕ} → number ≡ 0 → Changed c before after number place → JustThis c before after
+just-this {c} {before} {after} {place = place} e p =
+    let change = subst (λ (n : ℕ). Changed c before after n place) e p in
+    record {
+      knot = the-point-holds-the-new-knot change;
+      value = the-point-holds-the-new-value change;
+      slopes-near = λ i l near. subst (RightSlope (after .knots) (after .values) i) (sym (the-slopes-at-it-and-beside-it-are-renewed change i l near)) (right-slope (within-then change) i);
+      other-knots = no-other-knot-changes change;
+      other-values = no-other-value-changes change;
+      other-slopes = no-other-slope-changes change;
+      as-many-knots = ap length (change .knots) ∙ length-set (before .knots) (c .point) (c .knot);
+      as-many-values = ap length (change .values) ∙ length-set (before .values) (c .point) (c .value);
+      as-many-slopes = ap length (change .slopes) ∙ tab-length (length (before .slopes)) _;
+    }
+
+refused-as-a-build : {c : Change} {before after : Table} {built : List ℤ} {number place m q : ℕ} → Changed c before after number place
+    → Built (changedBy c before .knots) (changedBy c before .values) (before .slopes) built m q → (number ≡ 0 → ⊥) ↔ ((m ≡ 0 → ⊥) ⊎ (length (before .knots) ≤ c .point))
+refused-as-a-build {c} {before} change afresh = (
+  λ f. ⊎-elim (λ l. inl (λ e. f (made-then change afresh l e))) inr (less-or-not (c .point) (length (before .knots))),
+  λ r e. let made = made-only-then change afresh e in ⊎-elim (λ g. g (made .1)) (λ l. absurd (omega (arith, l, made .0))) r,
+)
+
+-- a chain of an implementation's changes is one of the changes that its promise allows
+chained : {I : Implementation} → Keeps I → {made changes : List Change} {t u : Table} → ChainOf I made changes t u → Chain.Chain changes t u
+chained k none = Chain.none
+chained k (next {made} {c} {t = t} p more) = Chain.next (k .promised (point made c t) _ p) (chained k more)
+
+-- ---- so whatever keeps the promises meets the demands
+
+module _ {I : Implementation} (k : Keeps I) where
+  pub demand-1 : Demand1 I
+  demand-1 = record {
+    counts-at-opposite-ends-are-refused = λ {v} {w} {m} {n} {call} l p. one-given (by-the-order call _ (k .promised call _ p)) (at-opposite-ends l);
+    nobody-is-asked = k .free;
+    refused-exactly-then = λ {call} p. refused-exactly (by-the-order call _ (k .promised call _ p));
+    done-at-place-0 = λ {call} p e. passes-at-0 e (by-the-order call _ (k .promised call _ p));
+    changes-no-list = λ {call} p. untouched call _ (k .promised call _ p);
+  }
+
+  pub demand-2 : Demand2 I
+  demand-2 = record {
+    a-piece-gets-a-yes-exactly-then = λ {h} {z} {m} {n} w l p. a-piece-by-its-promise w l (k .promised (judge h z m n) _ p);
+    so-does-a-table = λ {t} limits p. a-table-by-its-promise limits (k .promised (check t) _ p);
+    slopes-you-build = λ {t} p e. its-slopes-are-right e (k .promised (build t) _ p);
+    get-a-yes-always = λ {t} {o} p e q. one-given (k .promised (check (table (t .knots) (t .values) (o .lists))) _ q) (a-built-table-passes-the-table-check (done-so e (k .promised (build t) _ p))) .0;
+    the-position-you-answer = λ {t} {x} p e. its-value-is-exact e (k .promised (evaluate t x) _ p);
+  }
+
+  pub demand-3 : Demand3 I
+  demand-3 = record {
+    the-slopes-equal-those-built-afresh = λ {t} {u = u} {again} b e chain l p.
+        let same = one-build (k .promised (build (table (u .knots) (u .values) again)) _ p) (Chain.the-slopes-equal-those-built-afresh (done-so e (k .promised (build t) _ b)) (chained k chain) l) in
+        (same .0, same .2);
+    each-accepted-change-does-just-this = λ {made} {c} {t} p e. just-this e (k .promised (point made c t) _ p);
+    refused-exactly-as-a-build = λ {made} {c} {t} p b. refused-as-a-build (k .promised (point made c t) _ p) (k .promised (build (changedBy c t)) _ b);
+  }
+
+-- ======== Ours does
+
+pub met : Demand1 ours × Demand2 ours × Demand3 ours
+met = (demand-1 ours-keeps, demand-2 ours-keeps, demand-3 ours-keeps)
+
+pub met-in-C : Demand1 ours-in-C × Demand2 ours-in-C × Demand3 ours-in-C
+met-in-C = (demand-1 ours-in-C-keeps, demand-2 ours-in-C-keeps, demand-3 ours-in-C-keeps)

@@ -1,0 +1,114 @@
+-- Ours gives the sixteen: each case is a result that meets the promise, and one result only does.
+use mathlib.Core.Path.{_≡_, refl, sym, _∙_, ap, subst}
+use mathlib.Core.List.{List, [], _∷_}
+use Prim.Native.Nat.{ℕ, _≤_}
+use lib.Dec.{T, leb, lit<, lit≤}
+use lib.IntN.{ℤ, pos, negsuc, negℤ, _*ℤ_}
+use lib.Signed.{_≤ℤ_, _<ℤ_, leZ, leZ-yes, ltZ-yes}
+use lib.ListN.{length}
+use Rattle.integers.specs.Promise.{Between}
+use Rattle.cubic.specs.Piece.{unit, slopeAt}
+use Rattle.cubic.specs.Test.{Short, line, oval, short-accepts}
+use Rattle.cubic.specs.Monotone.{monotone-rising, monotone-falling, monotone-level}
+use Rattle.rules.specs.Limits.{CountWithin, WidthWithin, RiseWithin}
+use Rattle.rules.specs.Refusals.{answered}
+use Rattle.rules.specs.Order.{went-on}
+use Rattle.table.specs.Table.{table}
+use Rattle.table.specs.Accepted.{Points, points-accepted}
+use Rattle.table.specs.Tested.{points-by-test}
+use Rattle.piece.specs.Promise.{Word, bends, Answer, answer, leaning, Judged, monotone, bent}
+use Rattle.piece.specs.Determined.{one-answer}
+use Rattle.slopes.specs.Slopes.{builtSlopes, Built}
+use Rattle.slopes.specs.Determined.{one-build}
+use Rattle.slopes.specs.EveryPiece.{a-built-table-passes-the-table-check}
+use Rattle.position.specs.Position.{Belongs, inside, WithinKnots}
+use Rattle.position.specs.Refused.{as-checked, taken-inside}
+use Rattle.curve.specs.Curve.{valueOn, Evaluated}
+use Rattle.curve.specs.Determined.{one-evaluation}
+use Rattle.demands.specs.Demands.{judge, build, evaluate, Implementation}
+use Rattle.demands.specs.Ours.{ours, ours-in-C}
+use Rattle.demands.specs.Kept.{Keeps, ours-keeps, ours-in-C-keeps}
+use Rattle.demands.specs.Sixteen.{piece, slopes, value, sixteen, Gives, All, none, _&_, TheSixteen}
+
+-- ---- a piece that does not bend, by the test that decides the definition, and one that does, at a fraction where its slope is against its rise
+
+within : {l x h : ℤ} → T (leZ l x) → T (leZ x h) → Between l x h
+within s t = record { low = leZ-yes s; high = leZ-yes t }
+
+module _ {h z m n : ℤ} where
+  rises : pos 0 <ℤ z → WidthWithin h → RiseWithin z → Short (unit *ℤ z) (m *ℤ h) (n *ℤ h) → Judged h z m n (answer 0 0 (leaning z))
+  rises p w r s = monotone w r (monotone-rising p (short-accepts s))
+
+  falls : z <ℤ pos 0 → WidthWithin h → RiseWithin z → Short (negℤ (unit *ℤ z)) (negℤ (m *ℤ h)) (negℤ (n *ℤ h)) → Judged h z m n (answer 0 0 (leaning z))
+  falls p w r s = monotone w r (monotone-falling p (short-accepts s))
+
+  -- at the fraction k/q
+  against : pos 0 <ℤ z → WidthWithin h → RiseWithin z → (k q : ℕ) → 1 ≤ q → k ≤ q → (pos 0 ≤ℤ slopeAt (unit *ℤ z) (m *ℤ h) (n *ℤ h) (pos k) (pos q) → ⊥) → Judged h z m n (answer 0 0 bends)
+  against p w r k q q₁ k₁ f = bent w r (λ o. f (o .rising p .at k q q₁ k₁))
+
+one-is-not-none : pos 1 ≡ pos 0 → ⊥
+one-is-not-none e = absurd (subst (λ (x : ℤ). T (leZ (pos 1) x)) e tt)
+
+-- ---- points and their slopes, and a value in the first piece of a built table
+
+pub count : {n : ℕ} → T (leb 2 n) → T (leb n 1024) → CountWithin n
+count s t = record { low = lit≤ s; high = lit≤ t }
+
+pub has-slopes : {knots values these before : List ℤ} → Points knots values → these ≡ builtSlopes knots values → length before ≡ length knots → Built knots values before these 0 0
+has-slopes p e l = record { refusal = points-accepted p l; slopes = e }
+
+pub has-value : {knots values before after : List ℤ} {x v : ℤ} → WithinKnots knots x → Belongs knots x 0 → v ≡ valueOn (table knots values (builtSlopes knots values)) 0 x → Built knots values before after 0 0 → Evaluated (table knots values after) x 0 0 v
+has-value {knots} {values} {x = x} w p e b =
+    record {
+      refusal = went-on refl (as-checked (a-built-table-passes-the-table-check b)) (taken-inside w);
+      value = answered (record { piece = 0; belongs = p; is = e ∙ ap (λ (slopes : List ℤ). valueOn (table knots values slopes) 0 x) (sym (b .slopes)) });
+    }
+
+-- ---- so what keeps the promises gives them
+
+abbrev numberOf : Answer → ℕ
+numberOf (answer number place word) = number
+
+abbrev placeOf : Answer → ℕ
+placeOf (answer number place word) = place
+
+abbrev wordOf : Answer → Word
+wordOf (answer number place word) = word
+
+module _ {I : Implementation} (k : Keeps I) where
+  a-piece : {h z m n : ℤ} {word : Word} → Judged h z m n (answer 0 0 word) → Gives I (piece h z m n word)
+  a-piece {h} {z} {m} {n} j o p = let e = one-answer (k .promised (judge h z m n) o p) j in (ap numberOf e, ap placeOf e, ap wordOf e)
+
+  some-slopes : {knots values these : List ℤ} → Points knots values → these ≡ builtSlopes knots values → Gives I (slopes knots values these)
+  some-slopes {knots} {values} p e before l o q = one-build (k .promised (build (table knots values before)) o q) (has-slopes p e l)
+
+  a-value : {knots values : List ℤ} {x v : ℤ} → Points knots values → WithinKnots knots x → Belongs knots x 0 → v ≡ valueOn (table knots values (builtSlopes knots values)) 0 x → Gives I (value knots values x v)
+  a-value {knots} {values} {x} p w b e before l o q r s =
+      let built = one-build (k .promised (build (table knots values before)) o q) (has-slopes p refl l) in
+      one-evaluation (k .promised (evaluate (table knots values (o .lists)) x) r s) (has-value {before = before} w b e (has-slopes p (built .2) l))
+
+  pub the-sixteen-are-given : TheSixteen I
+  the-sixteen-are-given = record { sixteen-of-them = refl; each-is-given = given }
+    where
+      given : All I sixteen
+      given =
+          a-piece (rises (ltZ-yes tt) (within tt tt) (within tt tt) (line (leZ-yes tt) (leZ-yes tt) (leZ-yes tt)))
+          & a-piece (rises (ltZ-yes tt) (within tt tt) (within tt tt) (oval (leZ-yes tt) (leZ-yes tt) (ltZ-yes tt) (record { inside = leZ-yes tt })))
+          & a-piece (against (ltZ-yes tt) (within tt tt) (within tt tt) 1 2 (lit≤ tt) (lit≤ tt) (λ s. s .le))
+          & a-piece (rises (ltZ-yes tt) (within tt tt) (within tt tt) (oval (leZ-yes tt) (leZ-yes tt) (ltZ-yes tt) (record { inside = leZ-yes tt })))
+          & a-piece (against (ltZ-yes tt) (within tt tt) (within tt tt) 2 3 (lit≤ tt) (lit≤ tt) (λ s. s .le))
+          & a-piece (against (ltZ-yes tt) (within tt tt) (within tt tt) 1535 2301 (lit≤ tt) (lit≤ tt) (λ s. s .le))
+          & a-piece (rises (ltZ-yes tt) (within tt tt) (within tt tt) (line (leZ-yes tt) (leZ-yes tt) (leZ-yes tt)))
+          & a-piece (against (ltZ-yes tt) (within tt tt) (within tt tt) 770 771 (lit≤ tt) (lit≤ tt) (λ s. s .le))
+          & a-piece (monotone (within tt tt) (within tt tt) (monotone-level refl refl refl))
+          & a-piece (bent (within tt tt) (within tt tt) (λ o. one-is-not-none (o .level refl .0)))
+          & a-piece (falls (ltZ-yes tt) (within tt tt) (within tt tt) (oval (leZ-yes tt) (leZ-yes tt) (ltZ-yes tt) (record { inside = leZ-yes tt })))
+          & a-piece (rises (ltZ-yes tt) (within tt tt) (within tt tt) (oval (leZ-yes tt) (leZ-yes tt) (ltZ-yes tt) (record { inside = leZ-yes tt })))
+          & some-slopes (points-by-test _ _ refl (count tt tt) tt) refl
+          & some-slopes (points-by-test _ _ refl (count tt tt) tt) refl
+          & some-slopes (points-by-test _ _ refl (count tt tt) tt) refl
+          & a-value (points-by-test _ _ refl (count tt tt) tt) (within tt tt) (inside {i = 0} (lit< tt) (leZ-yes tt) (ltZ-yes tt)) refl
+          & none
+
+pub ours-gives-the-sixteen : TheSixteen ours × TheSixteen ours-in-C
+ours-gives-the-sixteen = (the-sixteen-are-given ours-keeps, the-sixteen-are-given ours-in-C-keeps)
