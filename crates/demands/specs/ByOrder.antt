@@ -53,3 +53,7 @@ module _ {H : ℕ → ℕ → Type 0} where
   pub none-given : {order : List ℕ} → NoneHolds H order → Given H order 0 0
   none-given {order = []} f = done
   none-given {order = c ∷ order} f = passed (λ q. f .none c q here) (none-given (record { none = λ d q m. f .none d q (behind m) }))
+
+  pub none-holds : {order : List ℕ} {p : ℕ} → Given H order 0 p → NoneHolds H order
+  none-holds done = no-cause
+  none-holds (passed f g) = one-more f (none-holds g)

@@ -9,3 +9,7 @@ pub mod Shown
 pub mod Sixteen
 pub mod SixteenGiven
 pub mod Ties
+pub mod Wrong
+pub mod Wrong1
+pub mod Wrong2
+pub mod Wrong3

@@ -39,10 +39,10 @@ use Rattle.demands.specs.Shown.{by-a-build, by-a-check, by-an-evaluation
 
 -- ---- each call gives its refusal by one rule
 
-width-taken : {h z : ℤ} → WidthWithin h → (p : ℕ) → HoldsAlone h z 3 p → ⊥
+pub width-taken : {h z : ℤ} → WidthWithin h → (p : ℕ) → HoldsAlone h z 3 p → ⊥
 width-taken w p (width-outside f) = f w
 
-rise-taken : {h z : ℤ} → RiseWithin z → (p : ℕ) → HoldsAlone h z 4 p → ⊥
+pub rise-taken : {h z : ℤ} → RiseWithin z → (p : ℕ) → HoldsAlone h z 4 p → ⊥
 rise-taken r p (rise-outside f) = f r
 
 alone : {h z m n : ℤ} {k p : ℕ} {word : Word} → Judged h z m n (answer k p word) → Given (HoldsAlone h z) (3 ∷ 4 ∷ []) k p
@@ -125,7 +125,7 @@ module _ {knots values before after : List ℤ} {number place : ℕ} (e : number
         each = λ i l. subst (RightSlope knots values i) (sym (ap (λ (list : List ℤ). entry list i) (done-so .slopes) ∙ tab-entry (length knots) (builtSlope knots values) i l)) (right-slope (accepted-points refl (done-so .refusal)) i);
       }
 
-its-value-is-exact : {t : Table} {x v : ℤ} {number place : ℕ} → number ≡ 0 → Evaluated t x number place v → ExactRoundedDown t x v
+pub its-value-is-exact : {t : Table} {x v : ℤ} {number place : ℕ} → number ≡ 0 → Evaluated t x number place v → ExactRoundedDown t x v
 its-value-is-exact e p =
     let at = answer-right e (p .value) in
     record { piece = at .piece; belongs = at .belongs; rounded-down = value-floor (accepted-at e (p .refusal)) (at .belongs) (at .is) }

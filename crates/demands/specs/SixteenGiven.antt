@@ -32,7 +32,7 @@ use Rattle.demands.specs.Sixteen.{piece, slopes, value, sixteen, Gives, 
 
 -- ---- a piece that does not bend, by the test that decides the definition, and one that does, at a fraction where its slope is against its rise
 
-within : {l x h : ℤ} → T (leZ l x) → T (leZ x h) → Between l x h
+pub within : {l x h : ℤ} → T (leZ l x) → T (leZ x h) → Between l x h
 within s t = record { low = leZ-yes s; high = leZ-yes t }
 
 module _ {h z m n : ℤ} where

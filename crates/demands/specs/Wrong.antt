@@ -1,0 +1,191 @@
+-- What the wrong programs of `Wrong1.antt`, `Wrong2.antt` and `Wrong3.antt` are made of, and the tables on which they are told.
+use mathlib.Core.Path.{_≡_, refl, sym, _∙_, ap, subst}
+use mathlib.Core.List.{List, [], _∷_}
+use Prim.Native.Nat.{ℕ, _+_, _<_}
+use native.Mathlib.Omega.{arith}
+use lib.Dec.{T, lit<, lit≤}
+use lib.IntN.{ℤ, pos, negsuc}
+use lib.Signed.{_<ℤ_, ltZ, leZ-yes, ltZ-yes}
+use lib.ListN.{length}
+use Rattle.integers.specs.Linear.{lin, says}
+use Rattle.rules.specs.Limits.{CountWithin}
+use Rattle.rules.specs.Refusals.{Given}
+use Rattle.table.specs.declared.changed.Change.{Change}
+use Rattle.table.specs.Table.{Table, table, entry, Holds, buildOrder, checkOrder}
+use Rattle.table.specs.Accepted.{Points}
+use Rattle.table.specs.Tested.{points-by-test}
+use Rattle.slopes.specs.Slopes.{builtSlopes, Built}
+use Rattle.slopes.specs.EveryPiece.{a-built-table-passes-the-table-check}
+use Rattle.demands.specs.Demands.{Call, judge, points, build, check, locate, evaluate, float-answer, changed-points, point, Outcome, Reply, Lists, Implementation, CauseOf, orderOf, NoneHolds, First, Demand1}
+use Rattle.demands.specs.Ours.{Asks, May}
+use Rattle.demands.specs.ByOrder.{refused-exactly}
+use Rattle.demands.specs.SixteenGiven.{count, has-slopes}
+
+-- what comes out of a call
+abbrev pub outcome : {call : Call} → ℕ → ℕ → Reply call → Lists call → Outcome call
+outcome number place answer lists = record { number = number; place = place; answer = answer; lists = lists }
+
+-- a program that answers so, and asks what ours does
+abbrev pub answering : ((call : Call) → Outcome call → Type 0) → Implementation
+answering may = record { Asks = Asks; May = may }
+
+-- ---- ours, but for one call, of which `Wrong` says what may come out
+
+abbrev pub another-judge : ((h z m n : ℤ) → Outcome (judge h z m n) → Type 0) → (call : Call) → Outcome call → Type 0
+another-judge Wrong (judge h z m n) o = Wrong h z m n o
+another-judge Wrong (points t) o = May (points t) o
+another-judge Wrong (build t) o = May (build t) o
+another-judge Wrong (check t) o = May (check t) o
+another-judge Wrong (locate t x) o = May (locate t x) o
+another-judge Wrong (evaluate t x) o = May (evaluate t x) o
+another-judge Wrong (float-answer t x) o = May (float-answer t x) o
+another-judge Wrong (changed-points c t) o = May (changed-points c t) o
+another-judge Wrong (point made c t) o = May (point made c t) o
+
+abbrev pub another-points : ((t : Table) → Outcome (points t) → Type 0) → (call : Call) → Outcome call → Type 0
+another-points Wrong (judge h z m n) o = May (judge h z m n) o
+another-points Wrong (points t) o = Wrong t o
+another-points Wrong (build t) o = May (build t) o
+another-points Wrong (check t) o = May (check t) o
+another-points Wrong (locate t x) o = May (locate t x) o
+another-points Wrong (evaluate t x) o = May (evaluate t x) o
+another-points Wrong (float-answer t x) o = May (float-answer t x) o
+another-points Wrong (changed-points c t) o = May (changed-points c t) o
+another-points Wrong (point made c t) o = May (point made c t) o
+
+abbrev pub another-build : ((t : Table) → Outcome (build t) → Type 0) → (call : Call) → Outcome call → Type 0
+another-build Wrong (judge h z m n) o = May (judge h z m n) o
+another-build Wrong (points t) o = May (points t) o
+another-build Wrong (build t) o = Wrong t o
+another-build Wrong (check t) o = May (check t) o
+another-build Wrong (locate t x) o = May (locate t x) o
+another-build Wrong (evaluate t x) o = May (evaluate t x) o
+another-build Wrong (float-answer t x) o = May (float-answer t x) o
+another-build Wrong (changed-points c t) o = May (changed-points c t) o
+another-build Wrong (point made c t) o = May (point made c t) o
+
+abbrev pub another-check : ((t : Table) → Outcome (check t) → Type 0) → (call : Call) → Outcome call → Type 0
+another-check Wrong (judge h z m n) o = May (judge h z m n) o
+another-check Wrong (points t) o = May (points t) o
+another-check Wrong (build t) o = May (build t) o
+another-check Wrong (check t) o = Wrong t o
+another-check Wrong (locate t x) o = May (locate t x) o
+another-check Wrong (evaluate t x) o = May (evaluate t x) o
+another-check Wrong (float-answer t x) o = May (float-answer t x) o
+another-check Wrong (changed-points c t) o = May (changed-points c t) o
+another-check Wrong (point made c t) o = May (point made c t) o
+
+abbrev pub another-locate : ((t : Table) (x : ℤ) → Outcome (locate t x) → Type 0) → (call : Call) → Outcome call → Type 0
+another-locate Wrong (judge h z m n) o = May (judge h z m n) o
+another-locate Wrong (points t) o = May (points t) o
+another-locate Wrong (build t) o = May (build t) o
+another-locate Wrong (check t) o = May (check t) o
+another-locate Wrong (locate t x) o = Wrong t x o
+another-locate Wrong (evaluate t x) o = May (evaluate t x) o
+another-locate Wrong (float-answer t x) o = May (float-answer t x) o
+another-locate Wrong (changed-points c t) o = May (changed-points c t) o
+another-locate Wrong (point made c t) o = May (point made c t) o
+
+abbrev pub another-evaluate : ((t : Table) (x : ℤ) → Outcome (evaluate t x) → Type 0) → (call : Call) → Outcome call → Type 0
+another-evaluate Wrong (judge h z m n) o = May (judge h z m n) o
+another-evaluate Wrong (points t) o = May (points t) o
+another-evaluate Wrong (build t) o = May (build t) o
+another-evaluate Wrong (check t) o = May (check t) o
+another-evaluate Wrong (locate t x) o = May (locate t x) o
+another-evaluate Wrong (evaluate t x) o = Wrong t x o
+another-evaluate Wrong (float-answer t x) o = May (float-answer t x) o
+another-evaluate Wrong (changed-points c t) o = May (changed-points c t) o
+another-evaluate Wrong (point made c t) o = May (point made c t) o
+
+abbrev pub another-float-answer : ((t : Table) (x : ℤ) → Outcome (float-answer t x) → Type 0) → (call : Call) → Outcome call → Type 0
+another-float-answer Wrong (judge h z m n) o = May (judge h z m n) o
+another-float-answer Wrong (points t) o = May (points t) o
+another-float-answer Wrong (build t) o = May (build t) o
+another-float-answer Wrong (check t) o = May (check t) o
+another-float-answer Wrong (locate t x) o = May (locate t x) o
+another-float-answer Wrong (evaluate t x) o = May (evaluate t x) o
+another-float-answer Wrong (float-answer t x) o = Wrong t x o
+another-float-answer Wrong (changed-points c t) o = May (changed-points c t) o
+another-float-answer Wrong (point made c t) o = May (point made c t) o
+
+abbrev pub another-changed-points : ((c : Change) (t : Table) → Outcome (changed-points c t) → Type 0) → (call : Call) → Outcome call → Type 0
+another-changed-points Wrong (judge h z m n) o = May (judge h z m n) o
+another-changed-points Wrong (points t) o = May (points t) o
+another-changed-points Wrong (build t) o = May (build t) o
+another-changed-points Wrong (check t) o = May (check t) o
+another-changed-points Wrong (locate t x) o = May (locate t x) o
+another-changed-points Wrong (evaluate t x) o = May (evaluate t x) o
+another-changed-points Wrong (float-answer t x) o = May (float-answer t x) o
+another-changed-points Wrong (changed-points c t) o = Wrong c t o
+another-changed-points Wrong (point made c t) o = May (point made c t) o
+
+abbrev pub another-point : ((made : List Change) (c : Change) (t : Table) → Outcome (point made c t) → Type 0) → (call : Call) → Outcome call → Type 0
+another-point Wrong (judge h z m n) o = May (judge h z m n) o
+another-point Wrong (points t) o = May (points t) o
+another-point Wrong (build t) o = May (build t) o
+another-point Wrong (check t) o = May (check t) o
+another-point Wrong (locate t x) o = May (locate t x) o
+another-point Wrong (evaluate t x) o = May (evaluate t x) o
+another-point Wrong (float-answer t x) o = May (float-answer t x) o
+another-point Wrong (changed-points c t) o = May (changed-points c t) o
+another-point Wrong (point made c t) o = Wrong made c t o
+
+-- two numbers that differ are not equal
+pub not-equal : {x y : ℤ} → T (ltZ x y) → x ≡ y → ⊥
+not-equal {x} {y} t e = below (ltZ-yes t) e
+  where
+    below : x <ℤ y → x ≡ y → ⊥
+    below = lin (x ∷ y ∷ []) (search says depth 30 fits 9000) (omega arith)
+
+-- ---- the first demand's middle sentence, both ways, of a call whose right refusal is known
+
+module _ {I : Implementation} (d : Demand1 I) (call : Call) (o : Outcome call) (may : I .May call o) where
+  -- what is refused has its cause
+  pub its-cause : (c : ℕ) → 0 < c → o .number ≡ c → CauseOf call c (o .place)
+  its-cause c l e = d .refused-exactly-then may c (o .place) l .0 (e, refl) .holds
+
+  -- and what has a cause is refused so
+  pub its-refusal : {c q : ℕ} → 0 < c → Given (CauseOf call) (orderOf call) c q → (o .number ≡ c) × (o .place ≡ q)
+  its-refusal {c} {q} l g = d .refused-exactly-then may c q l .1 (refused-exactly g c q l .0 (refl, refl))
+
+-- ---- tables
+
+-- "Points (0,0), (3,−10) have slopes −853, −853", "(0,0), (1,1), (2,4) have slopes 256, 384, 768", and "(0,0), (1,1), (2,4), (3,7) have slopes 256, 384, 768, 768"
+abbrev pub two : Table
+two = table (pos 0 ∷ pos 3 ∷ []) (pos 0 ∷ negsuc 9 ∷ []) (negsuc 852 ∷ negsuc 852 ∷ [])
+
+abbrev pub three : Table
+three = table (pos 0 ∷ pos 1 ∷ pos 2 ∷ []) (pos 0 ∷ pos 1 ∷ pos 4 ∷ []) (pos 256 ∷ pos 384 ∷ pos 768 ∷ [])
+
+abbrev pub four : Table
+four = table (pos 0 ∷ pos 1 ∷ pos 2 ∷ pos 3 ∷ []) (pos 0 ∷ pos 1 ∷ pos 4 ∷ pos 7 ∷ []) (pos 256 ∷ pos 384 ∷ pos 768 ∷ pos 768 ∷ [])
+
+-- the same points without slopes yet
+abbrev pub unbuilt : Table → Table
+unbuilt t = table (t .knots) (t .values) (zeros (t .knots))
+  where
+    zeros : List ℤ → List ℤ
+    zeros [] = []
+    zeros (x ∷ xs) = pos 0 ∷ zeros xs
+
+pub two-within : Points (two .knots) (two .values)
+two-within = points-by-test _ _ refl (count tt tt) tt
+
+pub three-within : Points (three .knots) (three .values)
+three-within = points-by-test _ _ refl (count tt tt) tt
+
+pub four-within : Points (four .knots) (four .values)
+four-within = points-by-test _ _ refl (count tt tt) tt
+
+-- they are what a build leaves, over any list of as many slopes, and they pass the table check
+pub two-built : (before : List ℤ) → length before ≡ 2 → Built (two .knots) (two .values) before (two .slopes) 0 0
+two-built before l = has-slopes two-within refl l
+
+pub three-built : (before : List ℤ) → length before ≡ 3 → Built (three .knots) (three .values) before (three .slopes) 0 0
+three-built before l = has-slopes three-within refl l
+
+pub four-built : (before : List ℤ) → length before ≡ 4 → Built (four .knots) (four .values) before (four .slopes) 0 0
+four-built before l = has-slopes four-within refl l
+
+pub two-passes : Given (Holds two) checkOrder 0 0
+two-passes = a-built-table-passes-the-table-check (two-built (two .slopes) refl)

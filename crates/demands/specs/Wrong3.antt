@@ -1,0 +1,176 @@
+-- Wrong programs that break the third demand, each ours but for what is said of it. Between quotation marks are the words in which document 01 names it.
+use mathlib.Core.Path.{_≡_, refl, sym, ap}
+use mathlib.Core.Logic.{inl, inr, ⊎-elim}
+use mathlib.Core.List.{List, [], _∷_, _++_}
+use Prim.Native.Nat.{ℕ, zero, suc, _-_}
+use native.Mathlib.Omega.{arith}
+use lib.Dec.{lit<, lit≤}
+use lib.IntN.{ℤ, pos, negsuc}
+use lib.Signed.{ltZ-yes}
+use lib.ListN.{length, set}
+use Rattle.table.specs.declared.changed.Change.{Change}
+use Rattle.table.specs.Table.{Table, table, entry}
+use Rattle.table.specs.Accepted.{Points, points-accepted}
+use Rattle.table.specs.Tested.{points-by-test}
+use Rattle.table.specs.Changed.{changedBy}
+use Rattle.table.specs.AfterChange.{as-changed}
+use Rattle.slopes.specs.Slopes.{builtSlopes, Built}
+use Rattle.change.specs.Change.{Changed}
+use Rattle.demands.specs.Demands.{Call, build, point, Outcome, ChainOf, none, next, JustThis, Demand3}
+use Rattle.demands.specs.SixteenGiven.{count, has-slopes}
+use Rattle.demands.specs.Wrong.{outcome, answering, another-point, not-equal, four, four-within, four-built}
+
+-- A change that refuses as ours does, and where it does not leaves something in place of what ours leaves; it may go by the changes made before.
+abbrev pub when-done : ℕ → (old new : Table) → Table
+when-done zero old new = new
+when-done (suc number) old new = old
+
+abbrev pub leaving : (List Change → Change → (before ours : Table) → Table) → (call : Call) → Outcome call → Type 0
+leaving left = another-point (λ made c t o. (u : Table) × (Changed c t u (o .number) (o .place) × (o .lists ≡ when-done (o .number) t (left made c t u))))
+
+-- what it leaves of an accepted change is to be just this
+to-be : (left : List Change → Change → (before ours : Table) → Table) → Demand3 (answering (leaving left)) → (made : List Change) (c : Change) (t : Table) {u : Table} → Changed c t u 0 0 → JustThis c t (left made c t u)
+to-be left d made c t {u} changed = d .each-accepted-change-does-just-this {made = made} {c = c} {t = t} {o = outcome 0 0 tt (left made c t u)} (u, (changed, refl)) refl
+
+-- ---- changes of (0,0), (1,1), (2,4), (3,7)
+
+-- "Point 0 changed to (0,−2): 768, 768, 768, 768."
+abbrev lowering : Change
+lowering = record { point = 0; knot = pos 0; value = negsuc 1 }
+
+abbrev lowered : Table
+lowered = table (four .knots) (negsuc 1 ∷ pos 1 ∷ pos 4 ∷ pos 7 ∷ []) (pos 768 ∷ pos 768 ∷ pos 768 ∷ pos 768 ∷ [])
+
+lowered-within : Points (lowered .knots) (lowered .values)
+lowered-within = points-by-test _ _ refl (count tt tt) tt
+
+is-lowered : Changed lowering four lowered 0 0
+is-lowered = record { refusal = as-changed lowering four (lit< tt) (points-accepted lowered-within refl); knots = refl; values = refl; slopes = refl }
+
+lowered-built : (before : List ℤ) → length before ≡ 4 → Built (lowered .knots) (lowered .values) before (lowered .slopes) 0 0
+lowered-built before l = has-slopes lowered-within refl l
+
+-- point 1 raised to (1,2), and point 3 moved to (4,7)
+abbrev raising : Change
+raising = record { point = 1; knot = pos 1; value = pos 2 }
+
+abbrev raised : Table
+raised = table (four .knots) (pos 0 ∷ pos 2 ∷ pos 4 ∷ pos 7 ∷ []) (pos 512 ∷ pos 512 ∷ pos 614 ∷ pos 768 ∷ [])
+
+is-raised : Changed raising four raised 0 0
+is-raised = record { refusal = as-changed raising four (lit< tt) (points-accepted (points-by-test (raised .knots) (raised .values) refl (count tt tt) tt) refl); knots = refl; values = refl; slopes = refl }
+
+abbrev moving : Change
+moving = record { point = 3; knot = pos 4; value = pos 7 }
+
+abbrev moved : Table
+moved = table (pos 0 ∷ pos 1 ∷ pos 2 ∷ pos 4 ∷ []) (four .values) (pos 256 ∷ pos 384 ∷ pos 531 ∷ pos 384 ∷ [])
+
+is-moved : Changed moving four moved 0 0
+is-moved = record { refusal = as-changed moving four (lit< tt) (points-accepted (points-by-test (moved .knots) (moved .values) refl (count tt tt) tt) refl); knots = refl; values = refl; slopes = refl }
+
+-- ======== "Each accepted change puts the new knot and value at that point, renews the slopes at it and beside it, and touches nothing else."
+
+-- "a change that writes nothing and reports 0 (demand 3, over demand 2's slopes)"
+abbrev pub nothing : List Change → Change → (before ours : Table) → Table
+nothing made c t u = t
+
+pub a-change-that-writes-nothing-and-reports-0 : Demand3 (answering (leaving nothing)) → ⊥
+a-change-that-writes-nothing-and-reports-0 d = not-equal tt (sym (to-be nothing d [] lowering four is-lowered .value))
+
+-- "a chain of changes right at its first .. and idle afterwards"
+abbrev pub only-the-first : List Change → Change → (before ours : Table) → Table
+only-the-first [] c t u = u
+only-the-first (before ∷ made) c t u = t
+
+pub a-chain-idle-after-its-first-change : Demand3 (answering (leaving only-the-first)) → ⊥
+a-chain-idle-after-its-first-change d = not-equal tt (sym (to-be only-the-first d (moving ∷ []) lowering four is-lowered .value))
+
+abbrev pub the-old-knot : List Change → Change → (before ours : Table) → Table
+the-old-knot made c t u = table (t .knots) (u .values) (u .slopes)
+
+pub a-knot-that-is-not-put : Demand3 (answering (leaving the-old-knot)) → ⊥
+a-knot-that-is-not-put d = not-equal tt (to-be the-old-knot d [] moving four is-moved .knot)
+
+-- "After a change, renewing only the slope of the changed point."
+abbrev pub its-slope-alone : List Change → Change → (before ours : Table) → Table
+its-slope-alone made c t u = table (u .knots) (u .values) (set (t .slopes) (c .point) (entry (u .slopes) (c .point)))
+
+pub only-the-changed-points-slope-renewed : Demand3 (answering (leaving its-slope-alone)) → ⊥
+only-the-changed-points-slope-renewed d = to-be its-slope-alone d [] lowering four is-lowered .slopes-near 1 (lit< tt) (record { before = lit≤ tt; behind = lit≤ tt }) .inner 0 refl (lit< tt) .size (ltZ-yes tt) .high .lt
+
+abbrev pub the-old-slope-before-it : List Change → Change → (before ours : Table) → Table
+the-old-slope-before-it made c t u = table (u .knots) (u .values) (set (u .slopes) (c .point - 1) (entry (t .slopes) (c .point - 1)))
+
+pub the-slope-before-it-not-renewed : Demand3 (answering (leaving the-old-slope-before-it)) → ⊥
+the-slope-before-it-not-renewed d = to-be the-old-slope-before-it d [] raising four is-raised .slopes-near 0 (lit< tt) (record { before = lit≤ tt; behind = lit≤ tt }) .first refl .size .high .lt
+
+abbrev pub the-last-knot-too : List Change → Change → (before ours : Table) → Table
+the-last-knot-too made c t u = table (set (u .knots) 3 (pos 9)) (u .values) (u .slopes)
+
+pub another-knot-moved : Demand3 (answering (leaving the-last-knot-too)) → ⊥
+another-knot-moved d = not-equal tt (sym (to-be the-last-knot-too d [] lowering four is-lowered .other-knots 3 (λ e. omega (arith, e))))
+
+abbrev pub the-last-value-too : List Change → Change → (before ours : Table) → Table
+the-last-value-too made c t u = table (u .knots) (set (u .values) 3 (pos 9)) (u .slopes)
+
+pub another-value-changed : Demand3 (answering (leaving the-last-value-too)) → ⊥
+another-value-changed d = not-equal tt (sym (to-be the-last-value-too d [] lowering four is-lowered .other-values 3 (λ e. omega (arith, e))))
+
+-- a build in place of a change, where the last slope, 1, is somebody else's
+abbrev pub every-slope : List Change → Change → (before ours : Table) → Table
+every-slope made c t u = table (u .knots) (u .values) (builtSlopes (u .knots) (u .values))
+
+pub every-slope-renewed : Demand3 (answering (leaving every-slope)) → ⊥
+every-slope-renewed d = not-equal tt (sym (to-be every-slope d [] lowering foreign changed .other-slopes 3 (lit< tt) (λ n. omega (arith, n .behind))))
+  where
+    foreign : Table
+    foreign = table (four .knots) (four .values) (pos 256 ∷ pos 384 ∷ pos 768 ∷ pos 1 ∷ [])
+
+    changed : Changed lowering foreign (table (lowered .knots) (lowered .values) (pos 768 ∷ pos 768 ∷ pos 768 ∷ pos 1 ∷ [])) 0 0
+    changed = record { refusal = as-changed lowering foreign (lit< tt) (points-accepted lowered-within refl); knots = refl; values = refl; slopes = refl }
+
+-- a list that becomes longer
+abbrev one-more : List ℤ → List ℤ
+one-more list = list ++ pos 9 ∷ []
+
+abbrev pub one-more-knot : List Change → Change → (before ours : Table) → Table
+one-more-knot made c t u = table (one-more (u .knots)) (u .values) (u .slopes)
+
+pub a-knot-added : Demand3 (answering (leaving one-more-knot)) → ⊥
+a-knot-added d = absurd (omega (arith, to-be one-more-knot d [] lowering four is-lowered .as-many-knots))
+
+abbrev pub one-more-value : List Change → Change → (before ours : Table) → Table
+one-more-value made c t u = table (u .knots) (one-more (u .values)) (u .slopes)
+
+pub a-value-added : Demand3 (answering (leaving one-more-value)) → ⊥
+a-value-added d = absurd (omega (arith, to-be one-more-value d [] lowering four is-lowered .as-many-values))
+
+abbrev pub one-more-slope : List Change → Change → (before ours : Table) → Table
+one-more-slope made c t u = table (u .knots) (u .values) (one-more (u .slopes))
+
+pub a-slope-added : Demand3 (answering (leaving one-more-slope)) → ⊥
+a-slope-added d = absurd (omega (arith, to-be one-more-slope d [] lowering four is-lowered .as-many-slopes))
+
+-- ======== "the slopes then equal those built afresh from the points as they stand"
+
+-- renewing only the slope of the changed point again: a build, that change, and a build of the points as they then stand
+pub slopes-that-are-not-those-built-afresh : Demand3 (answering (leaving its-slope-alone)) → ⊥
+slopes-that-are-not-those-built-afresh d =
+    let left = its-slope-alone [] lowering four lowered in
+    not-equal tt (sym (ap (λ (slopes : List ℤ). entry slopes 1) (d .the-slopes-equal-those-built-afresh {t = four} {o = outcome 0 0 tt (four .slopes)} {changes = lowering ∷ []} {u = left} {again = four .slopes} {p = outcome 0 0 tt (lowered .slopes)}
+    (four-built (four .slopes) refl) refl (next {o = outcome 0 0 tt left} (lowered, (is-lowered, refl)) none) refl (lowered-built (four .slopes) refl) .1)))
+
+-- ======== "It is refused exactly when a fresh build of the changed points would be, or the point isn't there."
+
+-- "a .. change that always refuses (.. for changes also demand 3's last sentence)"
+pub a-change-that-always-refuses : Demand3 (answering (another-point (λ made c t o. o ≡ outcome 7 0 tt t))) → ⊥
+a-change-that-always-refuses d =
+    ⊎-elim (λ f. f refl) (λ l. omega (arith, l))
+    (d .refused-exactly-as-a-build {made = []} {c = lowering} {t = four} {o = outcome 7 0 tt four} {p = outcome 0 0 tt (lowered .slopes)} refl (lowered-built (four .slopes) refl) .0 (λ e. omega (arith, e)))
+
+-- a point that isn't there, number 4, is changed all the same
+pub a-change-that-never-refuses : Demand3 (answering (another-point (λ made c t o. o ≡ outcome 0 0 tt (changedBy c t)))) → ⊥
+a-change-that-never-refuses d =
+    let nowhere : Change = record { point = 4; knot = pos 4; value = pos 7 } in
+    d .refused-exactly-as-a-build {made = []} {c = nowhere} {t = four} {o = outcome 0 0 tt four} {p = outcome 0 0 tt (four .slopes)} refl (four-built (four .slopes) refl) .1 (inr (lit≤ tt)) refl
