@@ -1,5 +1,5 @@
 -- What our functions promise, in the words of their definitions, for every call at once. Both our implementations keep it: for each call the contract is that promise.
-use mathlib.Core.Path.{_≡_, refl, sym, ap, subst}
+use mathlib.Core.Path.{_≡_, refl, sym, subst}
 use Prim.Native.Nat.{ℕ, zero, suc}
 use native.Mathlib.Omega.{arith}
 use lib.IntN.{ℤ}
@@ -17,7 +17,7 @@ use Rattle.change.specs.Change.{Changed}
 use Rattle.exports.specs.declared.answers.Told as Told'
 use Rattle.exports.specs.Cases.{verdictNumber, JudgedAs, judged, DrivenAs, dwells, moves}
 use Rattle.demands.specs.Demands.{Call, judge, points, build, check, locate, evaluate, float-answer, changed-points, point, Outcome, Implementation}
-use Rattle.demands.specs.Ours.{ours, ours-in-C, Judging, Telling, TellingC, CrossedAs, a-dwell, a-move}
+use Rattle.demands.specs.Ours.{ours, ours-in-C, CrossedAs, a-dwell, a-move}
 
 abbrev pub Promised : (call : Call) → Outcome call → Type 0
 Promised (judge h z m n) o = Judged h z m n (answer (o .number) (o .place) (o .answer))

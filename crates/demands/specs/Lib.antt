@@ -1,6 +1,7 @@
 pub mod ByOrder
 pub mod Cubic
 pub mod Demands
+pub mod Instances
 pub mod Kept
 pub mod Met
 pub mod Ours
@@ -11,5 +12,6 @@ pub mod SixteenGiven
 pub mod Ties
 pub mod Wrong
 pub mod Wrong1
+pub mod Wrong16
 pub mod Wrong2
 pub mod Wrong3

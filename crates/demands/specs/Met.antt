@@ -2,10 +2,10 @@
 -- meets the demands.
 use mathlib.Core.Path.{_≡_, refl, sym, _∙_, ap, subst, subst₂}
 use mathlib.Core.Logic.{_↔_, _⊎_, inl, inr, ⊎-elim}
-use mathlib.Core.List.{List, [], _∷_, _++_}
-use Prim.Native.Nat.{ℕ, _+_, _<_, _≤_}
+use mathlib.Core.List.{List, [], _∷_}
+use Prim.Native.Nat.{ℕ, _≤_}
 use native.Mathlib.Omega.{arith}
-use lib.IntN.{ℤ, pos}
+use lib.IntN.{ℤ}
 use lib.ListN.{length, length-set}
 use Rattle.cubic.specs.Monotone.{monotone-stable}
 use Rattle.rules.specs.Limits.{WidthWithin, RiseWithin}
@@ -30,7 +30,7 @@ use Rattle.change.specs.Change.{Changed}
 use Rattle.change.specs.Chain as Chain
 use Rattle.change.specs.WhatIsWritten.{the-point-holds-the-new-knot, the-point-holds-the-new-value, the-slopes-at-it-and-beside-it-are-renewed, no-other-knot-changes, no-other-value-changes, no-other-slope-changes}
 use Rattle.change.specs.RefusedAsABuild.{made-only-then, made-then}
-use Rattle.demands.specs.Demands.{Call, judge, points, build, check, locate, evaluate, float-answer, changed-points, point, Outcome, Implementation, orderOf, HoldsAlone, width-outside, rise-outside, CauseOf, NoneHolds, First, opposite-ends, LooksAt, its-points, a-build, a-check, a-piece, a-value, a-float-answer, its-changed-points, a-change, lent, Demand1, Yes, it-rises, it-falls, it-is-flat, NoSlopeAgainstItsRise, NoneAgainst, RightSlope, RightSlopes, ExactRoundedDown, Demand2, ChainOf, none, next, JustThis, Demand3}
+use Rattle.demands.specs.Demands.{Call, judge, points, build, check, locate, evaluate, float-answer, changed-points, point, Outcome, Implementation, orderOf, HoldsAlone, width-outside, rise-outside, CauseOf, NoneHolds, opposite-ends, LooksAt, its-points, a-build, a-check, a-piece, a-value, a-float-answer, its-changed-points, a-change, lent, Demand1, Yes, it-rises, it-falls, it-is-flat, NoSlopeAgainstItsRise, NoneAgainst, RightSlope, RightSlopes, ExactRoundedDown, Demand2, ChainOf, none, next, JustThis, Demand3}
 use Rattle.demands.specs.Ours.{ours, ours-in-C}
 use Rattle.demands.specs.Kept.{Promised, Keeps, ours-keeps, ours-in-C-keeps}
 use Rattle.demands.specs.ByOrder.{refused-exactly, none-given}

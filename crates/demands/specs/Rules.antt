@@ -1,7 +1,7 @@
 -- The slopes that are built keep the two rules, which say what a slope is and not how it is worked out.
 use mathlib.Core.Path.{_≡_, refl, sym, _∙_, ap, subst}
 use Prim.Native.Nat.{zero, suc}
-use lib.IntN.{ℤ, pos, negsuc, _+ℤ_, _*ℤ_, *ℤ-comm}
+use lib.IntN.{ℤ, pos, negsuc, _*ℤ_, *ℤ-comm}
 use lib.Signed.{_≤ℤ_, _<ℤ_, ltZ-yes}
 use Rattle.integers.specs.Promise.{Floor, floorOf, magnitude, withSign}
 use Rattle.integers.specs.Order.{signs, positives, <ℤ→≤ℤ}

@@ -1,9 +1,9 @@
 -- Ours gives the sixteen: each case is a result that meets the promise, and one result only does.
 use mathlib.Core.Path.{_≡_, refl, sym, _∙_, ap, subst}
-use mathlib.Core.List.{List, [], _∷_}
+use mathlib.Core.List.{List}
 use Prim.Native.Nat.{ℕ, _≤_}
 use lib.Dec.{T, leb, lit<, lit≤}
-use lib.IntN.{ℤ, pos, negsuc, negℤ, _*ℤ_}
+use lib.IntN.{ℤ, pos, negℤ, _*ℤ_}
 use lib.Signed.{_≤ℤ_, _<ℤ_, leZ, leZ-yes, ltZ-yes}
 use lib.ListN.{length}
 use Rattle.integers.specs.Promise.{Between}

@@ -1,22 +1,21 @@
 -- What the wrong programs of `Wrong1.antt`, `Wrong2.antt` and `Wrong3.antt` are made of, and the tables on which they are told.
-use mathlib.Core.Path.{_≡_, refl, sym, _∙_, ap, subst}
+use mathlib.Core.Path.{_≡_, refl}
 use mathlib.Core.List.{List, [], _∷_}
-use Prim.Native.Nat.{ℕ, _+_, _<_}
+use Prim.Native.Nat.{ℕ, _<_}
 use native.Mathlib.Omega.{arith}
-use lib.Dec.{T, lit<, lit≤}
+use lib.Dec.{T}
 use lib.IntN.{ℤ, pos, negsuc}
-use lib.Signed.{_<ℤ_, ltZ, leZ-yes, ltZ-yes}
+use lib.Signed.{_<ℤ_, ltZ, ltZ-yes}
 use lib.ListN.{length}
 use Rattle.integers.specs.Linear.{lin, says}
-use Rattle.rules.specs.Limits.{CountWithin}
 use Rattle.rules.specs.Refusals.{Given}
 use Rattle.table.specs.declared.changed.Change.{Change}
-use Rattle.table.specs.Table.{Table, table, entry, Holds, buildOrder, checkOrder}
+use Rattle.table.specs.Table.{Table, table, Holds, checkOrder}
 use Rattle.table.specs.Accepted.{Points}
 use Rattle.table.specs.Tested.{points-by-test}
-use Rattle.slopes.specs.Slopes.{builtSlopes, Built}
+use Rattle.slopes.specs.Slopes.{Built}
 use Rattle.slopes.specs.EveryPiece.{a-built-table-passes-the-table-check}
-use Rattle.demands.specs.Demands.{Call, judge, points, build, check, locate, evaluate, float-answer, changed-points, point, Outcome, Reply, Lists, Implementation, CauseOf, orderOf, NoneHolds, First, Demand1}
+use Rattle.demands.specs.Demands.{Call, judge, points, build, check, locate, evaluate, float-answer, changed-points, point, Outcome, Reply, Lists, Implementation, CauseOf, orderOf, Demand1}
 use Rattle.demands.specs.Ours.{Asks, May}
 use Rattle.demands.specs.ByOrder.{refused-exactly}
 use Rattle.demands.specs.SixteenGiven.{count, has-slopes}

@@ -3,7 +3,7 @@ use mathlib.Core.Path.{_≡_, refl, sym, ap}
 use mathlib.Core.List.{List, [], _∷_}
 use Prim.Native.Nat.{ℕ, zero, suc, _+_, _<_}
 use native.Mathlib.Omega.{arith}
-use lib.Dec.{T, lit<, lit≤}
+use lib.Dec.{lit<}
 use lib.IntN.{ℤ, pos, negsuc}
 use lib.Signed.{leZ-yes, ltZ-yes}
 use lib.ListN.{length, set}
@@ -15,8 +15,8 @@ use Rattle.rules.specs.Limits.{CountWithin, WidthWithin}
 use Rattle.rules.specs.Refusals.{Given, done, refused, passed}
 use Rattle.rules.specs.Order.{one-given, stopped, went-on}
 use Rattle.table.specs.declared.changed.Change.{Change}
-use Rattle.table.specs.Table.{Table, table, entry, step, SameLengths, Holds, too-few-or-many, width-outside, rise-outside, not-monotone, buildOrder, checkOrder}
-use Rattle.table.specs.Accepted.{Points, points-accepted, same-length-passes, count-passes, accepted-table}
+use Rattle.table.specs.Table.{Table, table, entry, step, SameLengths, Holds, width-outside, rise-outside, not-monotone, buildOrder, checkOrder}
+use Rattle.table.specs.Accepted.{points-accepted, same-length-passes, count-passes, accepted-table}
 use Rattle.table.specs.Tested.{points-by-test}
 use Rattle.table.specs.Changed.{changedBy, HoldsAfter, of-points, no-such-point, changeOrder}
 use Rattle.table.specs.AfterChange.{as-changed}
@@ -24,14 +24,14 @@ use Rattle.piece.specs.Promise.{none}
 use Rattle.position.specs.Position.{Belongs, inside, HoldsAt, of-table, position-outside, evaluationOrder}
 use Rattle.position.specs.Refused.{as-checked, taken-inside}
 use Rattle.curve.specs.Curve.{Evaluated}
-use Rattle.drive.specs.Drive.{resting, HoldsFor, floatOrder}
+use Rattle.drive.specs.Drive.{resting}
 use Rattle.drive.specs.Refused.{as-evaluated, refused-large}
-use Rattle.demands.specs.Demands.{Call, judge, points, build, check, locate, evaluate, float-answer, changed-points, point, Outcome, opposite-ends, LooksAt, its-points, a-value, Demand1}
+use Rattle.demands.specs.Demands.{judge, points, build, check, locate, evaluate, float-answer, changed-points, point, opposite-ends, LooksAt, its-points, a-value, Demand1}
 use Rattle.demands.specs.Ours.{May}
 use Rattle.demands.specs.Met.{width-taken}
 use Rattle.demands.specs.Shown.{by-a-build, by-a-check}
 use Rattle.demands.specs.SixteenGiven.{within, count, has-value}
-use Rattle.demands.specs.Wrong.{outcome, answering, another-judge, another-points, another-build, another-check, another-locate, another-evaluate, another-float-answer, another-changed-points, another-point, its-cause, its-refusal, not-equal, two, two-within, two-built, two-passes, four, four-within}
+use Rattle.demands.specs.Wrong.{outcome, answering, another-judge, another-points, another-build, another-check, another-locate, another-evaluate, another-float-answer, another-changed-points, another-point, its-cause, its-refusal, not-equal, two, two-built, four, four-within}
 
 -- ======== "is given exactly when its cause holds and no earlier one does": a refusal without its cause
 

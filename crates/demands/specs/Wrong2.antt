@@ -1,36 +1,33 @@
 -- Wrong programs that break the second demand, each ours but for what is said of it. Between quotation marks are the words in which document 01 names it.
-use mathlib.Core.Path.{_≡_, refl, sym, ap, subst}
-use mathlib.Core.Logic.{_⊎_, inl, inr, ⊎-elim}
-use mathlib.Core.List.{List, [], _∷_, _++_}
-use Prim.Native.Nat.{ℕ, zero, suc, _+_, _-_, _<_}
+use mathlib.Core.Path.{_≡_, refl, sym, subst}
+use mathlib.Core.Logic.{_⊎_, ⊎-elim}
+use mathlib.Core.List.{List, [], _∷_}
+use Prim.Native.Nat.{ℕ, _+_}
 use native.Mathlib.Omega.{arith}
-use lib.Dec.{T, lit<, lit≤}
+use lib.Dec.{lit<, lit≤}
 use lib.IntN.{ℤ, pos, negsuc, _+ℤ_, _-ℤ_, _*ℤ_}
 use lib.Signed.{_≤ℤ_, _<ℤ_, leZ-yes, ltZ-yes}
 use lib.ListN.{length, set}
-use Rattle.integers.specs.Promise.{Floor, floorOf, magnitude, withSign, towardZero}
+use Rattle.integers.specs.Promise.{floorOf, magnitude, towardZero}
 use Rattle.integers.specs.Linear.{lin, says}
 use Rattle.integers.specs.Order.{positives}
 use Rattle.integers.specs.Division.{floor-unique}
-use Rattle.cubic.specs.Piece.{unit, Monotone}
-use Rattle.cubic.specs.Slopes.{meanAbove, meanBelow, mean}
+use Rattle.cubic.specs.Piece.{unit}
+use Rattle.cubic.specs.Slopes.{meanBelow, mean}
 use Rattle.cubic.specs.Value.{numerator, denominator, risen}
 use Rattle.cubic.specs.Monotone.{monotone-rising}
 use Rattle.cubic.specs.Test.{line, oval, short-accepts}
-use Rattle.rules.specs.Refusals.{Given, done, passed, afterwards, Answered, answered}
+use Rattle.rules.specs.Refusals.{Given, afterwards, Answered, answered}
 use Rattle.rules.specs.Known.{0<-width}
-use Rattle.rules.specs.Order.{went-on}
 use Rattle.table.specs.Table.{Table, table, entry, step, Holds, buildOrder}
 use Rattle.table.specs.Accepted.{Points, points-accepted, accepted-table}
 use Rattle.table.specs.Tested.{points-by-test}
 use Rattle.piece.specs.Promise.{rising, falling, flat, bends}
 use Rattle.slopes.specs.Slopes.{builtSlope, builtSlopes, Built}
-use Rattle.slopes.specs.EveryPiece.{a-built-table-passes-the-table-check}
 use Rattle.position.specs.Position.{Belongs, inside, HoldsAt, evaluationOrder}
 use Rattle.position.specs.Pieces.{one-piece, within-list}
-use Rattle.position.specs.Refused.{as-checked, taken-inside}
 use Rattle.curve.specs.Curve.{Evaluated}
-use Rattle.demands.specs.Demands.{Call, judge, build, check, evaluate, Outcome, Yes, it-rises, it-falls, it-is-flat, NoSlopeAgainstItsRise, RoundedDown, ExactRoundedDown, RightSlopes, Demand2}
+use Rattle.demands.specs.Demands.{Call, judge, Outcome, Yes, it-rises, it-falls, it-is-flat, NoSlopeAgainstItsRise, RoundedDown, ExactRoundedDown, RightSlopes, Demand2}
 use Rattle.demands.specs.Ours.{May}
 use Rattle.demands.specs.ByOrder.{none-holds}
 use Rattle.demands.specs.Cubic.{no-slope-against}
@@ -69,11 +66,11 @@ pub data ByThePaper (h z m n : ℤ) : Outcome (judge h z m n) → Type 0 where
   turned-away : pos 0 <ℤ z → (ThePapersTest (unit *ℤ z) (m *ℤ h) (n *ℤ h) → ⊥) → ByThePaper h z m n (outcome 0 0 bends tt)
   otherwise : {o : Outcome (judge h z m n)} → (pos 0 <ℤ z → ⊥) → May (judge h z m n) o → ByThePaper h z m n o
 
+pub not-by-less : ThePapersTest (pos 256) (pos 768) (pos 768) → ⊥
+not-by-less t = ⊎-elim (λ l. l .le) (⊎-elim (λ l. l .le) (⊎-elim (λ l. l .le) (λ l. l .lt))) (t .one-of-four)
+
 pub the-papers-less : Demand2 (answering (another-judge ByThePaper)) → ⊥
 the-papers-less d = elim (d .a-piece-gets-a-yes-exactly-then {o = outcome 0 0 bends tt} (within tt tt) (within tt tt) (turned-away (ltZ-yes tt) not-by-less) .1 at-the-border) [ ]
-  where
-    not-by-less : ThePapersTest (pos 256) (pos 768) (pos 768) → ⊥
-    not-by-less t = ⊎-elim (λ l. l .le) (⊎-elim (λ l. l .le) (⊎-elim (λ l. l .le) (λ l. l .lt))) (t .one-of-four)
 
 -- ======== the other way round: a yes where a slope is against the rise
 
@@ -151,7 +148,10 @@ abbrev three-at-rest : Table
 three-at-rest = table (three .knots) (three .values) at-rest
 
 -- "a builder .. right at its first point and idle afterwards"
-pub a-builder-idle-after-its-first-point : Demand2 (answering (leaving (λ t. set (t .slopes) 0 (builtSlope (t .knots) (t .values) 0)))) → ⊥
+abbrev pub idle-afterwards : Table → List ℤ
+idle-afterwards t = set (t .slopes) 0 (builtSlope (t .knots) (t .values) 0)
+
+pub a-builder-idle-after-its-first-point : Demand2 (answering (leaving idle-afterwards)) → ⊥
 a-builder-idle-after-its-first-point d = left d three-at-rest three-within refl .each 1 (lit< tt) .inner 0 refl (lit< tt) .size (ltZ-yes tt) .high .lt
 
 pub a-builder-idle-at-its-last-point : Demand2 (answering (leaving (but-at 2 (λ t. entry (t .slopes) 2)))) → ⊥
@@ -223,10 +223,10 @@ abbrev pub mirrored : (h z m n t : ℤ) → ℤ
 mirrored h z m n t = risen unit h z n m t
 
 -- −4 at position 1 of (0,0), (3,−10)
-at-1 : Belongs (two .knots) (pos 1) 0
+pub at-1 : Belongs (two .knots) (pos 1) 0
 at-1 = inside {i = 0} (lit< tt) (leZ-yes tt) (ltZ-yes tt)
 
-minus-four : Evaluated two (pos 1) 0 0 (negsuc 3)
+pub minus-four : Evaluated two (pos 1) 0 0 (negsuc 3)
 minus-four = has-value {before = two .slopes} (within tt tt) at-1 refl (two-built (two .slopes) refl)
 
 -- "an evaluation that answers the left value (demand 2)"

@@ -1,6 +1,6 @@
 -- Wrong programs that break the third demand, each ours but for what is said of it. Between quotation marks are the words in which document 01 names it.
 use mathlib.Core.Path.{_≡_, refl, sym, ap}
-use mathlib.Core.Logic.{inl, inr, ⊎-elim}
+use mathlib.Core.Logic.{inr, ⊎-elim}
 use mathlib.Core.List.{List, [], _∷_, _++_}
 use Prim.Native.Nat.{ℕ, zero, suc, _-_}
 use native.Mathlib.Omega.{arith}
@@ -16,9 +16,9 @@ use Rattle.table.specs.Changed.{changedBy}
 use Rattle.table.specs.AfterChange.{as-changed}
 use Rattle.slopes.specs.Slopes.{builtSlopes, Built}
 use Rattle.change.specs.Change.{Changed}
-use Rattle.demands.specs.Demands.{Call, build, point, Outcome, ChainOf, none, next, JustThis, Demand3}
+use Rattle.demands.specs.Demands.{Call, point, Outcome, none, next, JustThis, Demand3}
 use Rattle.demands.specs.SixteenGiven.{count, has-slopes}
-use Rattle.demands.specs.Wrong.{outcome, answering, another-point, not-equal, four, four-within, four-built}
+use Rattle.demands.specs.Wrong.{outcome, answering, another-point, not-equal, four, four-built}
 
 -- A change that refuses as ours does, and where it does not leaves something in place of what ours leaves; it may go by the changes made before.
 abbrev pub when-done : ℕ → (old new : Table) → Table
@@ -35,16 +35,16 @@ to-be left d made c t {u} changed = d .each-accepted-change-does-just-this {made
 -- ---- changes of (0,0), (1,1), (2,4), (3,7)
 
 -- "Point 0 changed to (0,−2): 768, 768, 768, 768."
-abbrev lowering : Change
+abbrev pub lowering : Change
 lowering = record { point = 0; knot = pos 0; value = negsuc 1 }
 
-abbrev lowered : Table
+abbrev pub lowered : Table
 lowered = table (four .knots) (negsuc 1 ∷ pos 1 ∷ pos 4 ∷ pos 7 ∷ []) (pos 768 ∷ pos 768 ∷ pos 768 ∷ pos 768 ∷ [])
 
 lowered-within : Points (lowered .knots) (lowered .values)
 lowered-within = points-by-test _ _ refl (count tt tt) tt
 
-is-lowered : Changed lowering four lowered 0 0
+pub is-lowered : Changed lowering four lowered 0 0
 is-lowered = record { refusal = as-changed lowering four (lit< tt) (points-accepted lowered-within refl); knots = refl; values = refl; slopes = refl }
 
 lowered-built : (before : List ℤ) → length before ≡ 4 → Built (lowered .knots) (lowered .values) before (lowered .slopes) 0 0

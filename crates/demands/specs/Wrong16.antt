@@ -1,0 +1,52 @@
+-- Wrong programs that do not give the sixteen, each by one of them.
+use mathlib.Core.Path.{refl, sym, ap}
+use mathlib.Core.List.{List, [], _∷_}
+use Prim.Native.Nat.{ℕ, zero, suc}
+use lib.IntN.{ℤ, pos, negsuc}
+use lib.Signed.{leZ-yes, ltZ-yes}
+use Rattle.table.specs.Accepted.{points-accepted}
+use Rattle.table.specs.Table.{entry}
+use Rattle.rules.specs.Refusals.{answered}
+use Rattle.piece.specs.Promise.{Word, rising, falling, flat, bends}
+use Rattle.demands.specs.Demands.{Implementation}
+use Rattle.demands.specs.Sixteen.{Case, Gives, All, none, _&_, TheSixteen}
+use Rattle.demands.specs.Wrong.{outcome, answering, another-judge, not-equal, two, two-built, three-within}
+use Rattle.demands.specs.Wrong2.{ByThePaper, turned-away, not-by-less, BySigns, leaving, idle-afterwards, rising-by, toward-zero, at-1, minus-four}
+
+-- what case i of a list says
+abbrev Says : Implementation → List Case → ℕ → Type 0
+Says I [] i = Unit
+Says I (c ∷ more) zero = Gives I c
+Says I (c ∷ more) (suc i) = Says I more i
+
+case : {I : Implementation} {cases : List Case} → All I cases → (i : ℕ) → Says I cases i
+case none i = tt
+case (g & more) zero = g
+case (g & more) (suc i) = case more i
+
+-- a verdict as a number
+abbrev numbered : Word → ℤ
+numbered rising = pos 1
+numbered falling = pos 2
+numbered flat = pos 3
+numbered bends = pos 4
+numbered Word.none = pos 0
+
+-- the second: 1, 1, 768, 768 rises
+pub not-by-the-papers-less : TheSixteen (answering (another-judge ByThePaper)) → ⊥
+not-by-the-papers-less s = not-equal tt (sym (ap numbered (case (s .each-is-given) 1 (outcome 0 0 bends tt) (turned-away (ltZ-yes tt) not-by-less) .2)))
+
+-- the fifth: 1, 1, 1025, 256 bends
+pub not-by-the-signs : TheSixteen (answering (another-judge BySigns)) → ⊥
+not-by-the-signs s = not-equal tt (ap numbered (case (s .each-is-given) 4 (outcome 0 0 rising tt) (BySigns.accepted (ltZ-yes tt) (leZ-yes tt) (leZ-yes tt)) .2))
+
+-- the thirteenth: (0,0), (1,1), (2,4) have the slopes 256, 384, 768
+pub not-by-an-idle-builder : TheSixteen (answering (leaving idle-afterwards)) → ⊥
+not-by-an-idle-builder s =
+    let before = pos 0 ∷ pos 0 ∷ pos 0 ∷ [] in
+    not-equal tt (ap (λ (slopes : List ℤ). entry slopes 1) (case (s .each-is-given) 12 before refl (outcome 0 0 tt (pos 256 ∷ pos 0 ∷ pos 0 ∷ [])) (points-accepted three-within refl, refl) .2))
+
+-- the last: (0,0), (3,−10) have −4 at position 1
+pub not-by-division-toward-zero : TheSixteen (answering (rising-by toward-zero)) → ⊥
+not-by-division-toward-zero s =
+    not-equal tt (sym (case (s .each-is-given) 15 (two .slopes) refl (outcome 0 0 tt (two .slopes)) (two-built (two .slopes) refl) (outcome 0 0 (negsuc 2) tt) (minus-four .refusal, answered (0, (at-1, refl))) .2))
