@@ -15,3 +15,4 @@ pub mod Wrong1
 pub mod Wrong16
 pub mod Wrong2
 pub mod Wrong3
+pub mod WrongTies

@@ -94,19 +94,19 @@ module _ {L W : Type 0} {A R S : L → Type 0} (Pre : (κs : L) → A κs → Ty
   TiedWhere = (κs : L) (a : A κs) (r s : R κs) (x y : S κs) → Pre κs a → Post κs a r x → Post κs a s y → seen κs r x ≡ seen κs s y
 
 -- what is returned; what a returned part of a list holds; and what is returned with the first list, the third, or all three
-abbrev result : {L R S : Type 0} → L → R → S → R
+abbrev pub result : {L R S : Type 0} → L → R → S → R
 result κs r x = r
 
-abbrev contents : {L X S : Type 0} → L → RefT X → S → X
+abbrev pub contents : {L X S : Type 0} → L → RefT X → S → X
 contents κs r x = now r
 
-abbrev with-first : {L R X S : Type 0} → L → R → RefT X × S → R × X
+abbrev pub with-first : {L R X S : Type 0} → L → R → RefT X × S → R × X
 with-first κs r x = (r, now (x .0))
 
-abbrev with-third : {L R X Y Z S : Type 0} → L → R → RefT X × (RefT Y × (RefT Z × S)) → R × Z
+abbrev pub with-third : {L R X Y Z S : Type 0} → L → R → RefT X × (RefT Y × (RefT Z × S)) → R × Z
 with-third κs r x = (r, now (x .1 .1 .0))
 
-abbrev with-three : {L R S : Type 0} → L → R → RefT (List ℤ) × (RefT (List ℤ) × (RefT (List ℤ) × S)) → R × Table
+abbrev pub with-three : {L R S : Type 0} → L → R → RefT (List ℤ) × (RefT (List ℤ) × (RefT (List ℤ) × S)) → R × Table
 with-three κs r x = (r, table (now (x .0)) (now (x .1 .0)) (now (x .1 .1 .0)))
 
 -- ---- records, field by field
