@@ -9,7 +9,7 @@ use Rattle.rules.specs.Refusals.{Given, done, refused, passed}
 use Rattle.rules.specs.Order.{one-given, stopped, carried}
 use Rattle.table.specs.declared.changed.Change.{Change}
 use Rattle.table.specs.Table.{Table, points, buildOrder}
-use Rattle.table.specs.Changed.{changedBy, HoldsAfter, changeOrder}
+use Rattle.table.specs.WouldBe.{changedBy, HoldsAfter, changeOrder}
 use Rattle.table.specs.AfterChange.{beside-7, as-a-build, refused-nowhere, point-there}
 use Rattle.slopes.specs.Slopes.{Built}
 use Rattle.change.specs.Change.{Changed}

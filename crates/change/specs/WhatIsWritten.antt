@@ -9,7 +9,7 @@ use lib.ListN.{length}
 use lib.Seq.{getD-set-same, getD-set-other}
 use Rattle.table.specs.declared.changed.Change.{Change}
 use Rattle.table.specs.Table.{Table, entry, points}
-use Rattle.table.specs.Changed.{changedBy}
+use Rattle.table.specs.WouldBe.{changedBy}
 use Rattle.table.specs.AfterChange.{point-there, equally-long}
 use Rattle.slopes.specs.Slopes.{builtSlope}
 use Rattle.slopes.specs.Put.{tab-entry}

@@ -8,7 +8,7 @@ use Rattle.rules.specs.Limits.{WidthWithin, RiseWithin}
 use Rattle.rules.specs.Refusals.{Given, done, refused, passed}
 use Rattle.table.specs.declared.changed.Change.{Change}
 use Rattle.table.specs.Table.{Table, Holds, buildOrder, checkOrder}
-use Rattle.table.specs.Changed.{HoldsAfter, changeOrder}
+use Rattle.table.specs.WouldBe.{HoldsAfter, changeOrder}
 use Rattle.piece.specs.declared.Verdict.{Verdict}
 use Rattle.piece.specs.Promise.{Word, answer, answerOf, Judged, width-refused, rise-refused, monotone, bent}
 use Rattle.slopes.specs.Slopes.{Built}

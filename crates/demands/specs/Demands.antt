@@ -20,7 +20,7 @@ use Rattle.rules.specs.Order.{one-given, went-on, passes-at-0, kept, answer-rig
 use Rattle.table.specs.declared.changed.Change.{Change}
 use Rattle.table.specs.Table.{Table, table, entry, step, Holds, not-monotone, buildOrder, checkOrder}
 use Rattle.table.specs.Accepted.{accepted-table}
-use Rattle.table.specs.Changed.{changedBy}
+use Rattle.table.specs.WouldBe.{changedBy}
 use Rattle.table.specs.AfterChange.{as-changed}
 use Rattle.piece.specs.declared.Verdict.{Verdict}
 use Rattle.piece.specs.declared.Verdict.the-variants.{Rising, Falling, Flat, Bends}

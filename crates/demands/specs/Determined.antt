@@ -28,7 +28,7 @@ use Rattle.piece.specs.Cubic.{Coefficients}
 use Rattle.piece.specs.Determined.{one-verdict}
 use Rattle.table.specs.declared.changed.Change.{Change}
 use Rattle.table.specs.Table.{Table, step as step-of, Holds, buildOrder, checkOrder}
-use Rattle.table.specs.Changed.{HoldsAfter, changeOrder}
+use Rattle.table.specs.WouldBe.{HoldsAfter, changeOrder}
 use Rattle.slopes.specs.Slopes.{builtSlope, Built}
 use Rattle.slopes.specs.Put.{put}
 use Rattle.slopes.specs.Determined.{one-build}

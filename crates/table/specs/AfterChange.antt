@@ -10,7 +10,7 @@ use Rattle.rules.specs.Refusals.{Given, done, refused, passed}
 use Rattle.rules.specs.Order.{Same, none, also, without, one-more-cause, other-way, carried, unasked, asked-too, clear, behind}
 use Rattle.table.specs.declared.changed.Change.{Change}
 use Rattle.table.specs.Table.{Table, points, SameLengths, Holds, lengths-differ, too-few-or-many, buildOrder}
-use Rattle.table.specs.Changed.{changedBy, HoldsAfter, of-points, no-such-point, changeOrder}
+use Rattle.table.specs.WouldBe.{changedBy, HoldsAfter, of-points, no-such-point, changeOrder}
 use Rattle.table.specs.Accepted.{Points, at-most, same-lengths, accepted-points}
 
 module _ (c : Change) (t : Table) where

@@ -13,7 +13,7 @@ use borrow.Author.Needs.{needs}
 use Rattle.rules.specs.Refusals.{Given}
 use Rattle.rules.specs.Order.{kept, replaced}
 use Rattle.table.specs.Table.{Table, table, SameLengths}
-use Rattle.table.specs.Changed.{changedBy, HoldsAfter, changeOrder}
+use Rattle.table.specs.WouldBe.{changedBy, HoldsAfter, changeOrder}
 use Rattle.table.specs.AfterChange.{point-there, accepted-then, equally-long}
 use Rattle.table.specs.Accepted.{Points}
 use Rattle.slopes.specs.Slopes.{builtSlope}
