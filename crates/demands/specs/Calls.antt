@@ -10,11 +10,11 @@ use Rattle.table.specs.declared.changed.Change.{Change}
 use Rattle.table.specs.Table.{Table, Holds, buildOrder, checkOrder}
 use Rattle.table.specs.WouldBe.{HoldsAfter, changeOrder}
 use Rattle.piece.specs.declared.Verdict.{Verdict}
-use Rattle.piece.specs.Promise.{Word, answer, answerOf, Judged, width-refused, rise-refused, monotone, bent}
+use Rattle.piece.specs.Promise.{Finding, ruling, rulingOf, Judged, width-refused, rise-refused, monotone, bent}
 use Rattle.slopes.specs.Slopes.{Built}
 use Rattle.position.specs.Position.{HoldsAt, Located}
 use Rattle.curve.specs.Curve.{Evaluated}
-use Rattle.drive.specs.Drive.{Told, HoldsFor, Driving}
+use Rattle.drive.specs.Drive.{Telling, HoldsFor, Driving}
 use Rattle.change.specs.Change.{Changed}
 
 -- A public function and what comes in: a piece; or the three lists as they are at the call, and a position or a change.
@@ -55,13 +55,13 @@ CauseOf (point c t) = HoldsAfter c t
 
 -- A call may answer this number at this place: so its function promises, whatever the rest of the answer is.
 pub data Answers : Call → (number place : ℕ) → Type 0 where
-  by-judge : {h z m n : ℤ} {k p : ℕ} {word : Word} (r : Verdict) → answerOf r ≡ answer k p word → Judged h z m n (answerOf r) → Answers (judge h z m n) k p
+  by-judge : {h z m n : ℤ} {k p : ℕ} {finding : Finding} (r : Verdict) → rulingOf r ≡ ruling k p finding → Judged h z m n (rulingOf r) → Answers (judge h z m n) k p
   by-points : {t : Table} {k p : ℕ} → Given (Holds t) buildOrder k p → Answers (points t) k p
   by-build : {t : Table} {after : List ℤ} {k p : ℕ} → Built (t .knots) (t .values) (t .slopes) after k p → Answers (build t) k p
   by-check : {t : Table} {k p : ℕ} → Given (Holds t) checkOrder k p → Answers (check t) k p
   by-locate : {t : Table} {x : ℤ} {k p piece : ℕ} → Located t x k p piece → Answers (locate t x) k p
   by-evaluate : {t : Table} {x v : ℤ} {k p : ℕ} → Evaluated t x k p v → Answers (evaluate t x) k p
-  by-float-answer : {t : Table} {x : ℤ} {told : Told} {k p : ℕ} → Driving t x k p told → Answers (float-answer t x) k p
+  by-float-answer : {t : Table} {x : ℤ} {told : Telling} {k p : ℕ} → Driving t x k p told → Answers (float-answer t x) k p
   by-changed-points : {c : Change} {t : Table} {k p : ℕ} → Given (HoldsAfter c t) changeOrder k p → Answers (changed-points c t) k p
   by-point : {c : Change} {t after : Table} {k p : ℕ} → Changed c t after k p → Answers (point c t) k p
 
@@ -73,7 +73,7 @@ width-taken w p (width-outside f) = f w
 rise-taken : {h z : ℤ} → RiseWithin z → (p : ℕ) → HoldsAlone h z 4 p → ⊥
 rise-taken r p (rise-outside f) = f r
 
-alone : {h z m n : ℤ} {k p : ℕ} {word : Word} → Judged h z m n (answer k p word) → Given (HoldsAlone h z) (3 ∷ 4 ∷ []) k p
+alone : {h z m n : ℤ} {k p : ℕ} {finding : Finding} → Judged h z m n (ruling k p finding) → Given (HoldsAlone h z) (3 ∷ 4 ∷ []) k p
 alone (width-refused f) = refused (width-outside f) (λ _ l _. absurd (omega (arith, l)))
 alone (rise-refused w f) = passed (width-taken w) (refused (rise-outside f) (λ _ l _. absurd (omega (arith, l))))
 alone (monotone w r o) = passed (width-taken w) (passed (rise-taken r) done)

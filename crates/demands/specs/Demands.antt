@@ -24,7 +24,7 @@ use Rattle.table.specs.WouldBe.{changedBy}
 use Rattle.table.specs.AfterChange.{as-changed}
 use Rattle.piece.specs.declared.Verdict.{Verdict}
 use Rattle.piece.specs.declared.Verdict.the-variants.{Rising, Falling, Flat, Bends}
-use Rattle.piece.specs.Promise.{answerOf, Judged, bent}
+use Rattle.piece.specs.Promise.{rulingOf, Judged, bent}
 use Rattle.piece.specs.Leaning.{is-rising, is-falling, is-flat}
 use Rattle.piece.specs.Determined.{one-verdict}
 use Rattle.slopes.specs.Slopes.{builtSlope, Built}
@@ -110,7 +110,7 @@ pub data Yes (z : ℤ) : Verdict → Type 0 where
   it-is-flat : z ≡ pos 0 → Yes z Flat
 
 -- a piece alone, by `judge`
-pub a-piece-gets-a-yes-exactly-then : {h z m n : ℤ} (r : Verdict) → WidthWithin h → RiseWithin z → Judged h z m n (answerOf r) → Yes z r ↔ NoSlopeAgainstItsRise h z m n
+pub a-piece-gets-a-yes-exactly-then : {h z m n : ℤ} (r : Verdict) → WidthWithin h → RiseWithin z → Judged h z m n (rulingOf r) → Yes z r ↔ NoSlopeAgainstItsRise h z m n
 a-piece-gets-a-yes-exactly-then {h} {z} {m} {n} r w l j = (
   λ y. no-slope-against (monotone-stable (λ f. not-bends y (one-verdict r Bends j (bent w l f)))),
   λ s. let o = monotone-without s in

@@ -23,7 +23,7 @@ use Rattle.rules.specs.Refusals.{Given}
 use Rattle.rules.specs.Order.{one-given}
 use Rattle.piece.specs.declared.Verdict.{Verdict}
 use Rattle.piece.specs.declared.Cubic.{Cubic}
-use Rattle.piece.specs.Promise.{answerOf, Judged}
+use Rattle.piece.specs.Promise.{rulingOf, Judged}
 use Rattle.piece.specs.Cubic.{Coefficients}
 use Rattle.piece.specs.Determined.{one-verdict}
 use Rattle.table.specs.declared.changed.Change.{Change}
@@ -51,7 +51,7 @@ use Rattle.exports.specs.declared.text.Span.{Span}
 use Rattle.exports.specs.declared.text.Read.{Read}
 use Rattle.exports.specs.declared.text.Read32.{Read32}
 use Rattle.exports.specs.Cases.{JudgedAs, DrivenAs, WordAs, NumberAs, Number32As}
-use Rattle.exports.specs.Determined.{one-judgement, one-telling, one-span, one-read, one-read32}
+use Rattle.exports.specs.Determined.{one-judgement, one-told, one-span, one-read, one-read32}
 
 abbrev Determined : {A : Type 0} → (A → Type 0) → Type 0
 Determined {A} Promise = (r s : A) → Promise r → Promise s → r ≡ s
@@ -129,7 +129,7 @@ rise-within z = decided
 
 -- ---- piece
 
-pub judge : (h z m n : ℤ) → Determined (λ (r : Verdict). Judged h z m n (answerOf r))
+pub judge : (h z m n : ℤ) → Determined (λ (r : Verdict). Judged h z m n (rulingOf r))
 judge h z m n = one-verdict
 
 pub is-monotone : (h z m n : ℤ) → Determined (Decided (Monotone unit h z m n))
@@ -277,4 +277,4 @@ pub negwafir-judge : (h z m n : ℤ) → Determined (λ (r : Judgement). JudgedA
 negwafir-judge h z m n r s = one-judgement
 
 pub negwafir-float-answer : (t : Table) (x : ℤ) → Determined (λ (r : Told). DrivenAs t x (r .refusal .number) (r .refusal .place) (r .kind) (r .left) (r .numerator) (r .denominator))
-negwafir-float-answer t x r s = one-telling
+negwafir-float-answer t x r s = one-told

@@ -16,7 +16,7 @@ use Rattle.rules.specs.Order.{went-on}
 use Rattle.table.specs.Table.{table}
 use Rattle.table.specs.Accepted.{Points, points-accepted}
 use Rattle.table.specs.Tested.{points-by-test}
-use Rattle.piece.specs.Promise.{bends, answer, answerOf, leaning, Judged, monotone, bent}
+use Rattle.piece.specs.Promise.{bends, ruling, rulingOf, leaning, Judged, monotone, bent}
 use Rattle.piece.specs.declared.Verdict.{Verdict}
 use Rattle.piece.specs.declared.Verdict.the-variants.{Rising, Falling, Flat, Bends}
 use Rattle.slopes.specs.Slopes.{builtSlopes, Built}
@@ -56,7 +56,7 @@ sixteen =
 -- What a case says: `judge` may answer this verdict; `build`, over any list of as many slopes, may answer 0 and leave these; and of the table that `build` leaves
 -- `evaluate` may answer 0 and this value. They can answer nothing else: `Determined.antt`.
 abbrev pub Gives : Case → Type 0
-Gives (piece h z m n verdict) = Judged h z m n (answerOf verdict)
+Gives (piece h z m n verdict) = Judged h z m n (rulingOf verdict)
 Gives (slopes knots values these) = (before : List ℤ) → length before ≡ length knots → Built knots values before these 0 0
 Gives (value knots values x v) = (before after : List ℤ) → Built knots values before after 0 0 → Evaluated (table knots values after) x 0 0 v
 
@@ -72,14 +72,14 @@ within : {l x h : ℤ} → T (leZ l x) → T (leZ x h) → Between l x h
 within s t = record { low = leZ-yes s; high = leZ-yes t }
 
 module _ {h z m n : ℤ} where
-  rises : pos 0 <ℤ z → WidthWithin h → RiseWithin z → Short (unit *ℤ z) (m *ℤ h) (n *ℤ h) → Judged h z m n (answer 0 0 (leaning z))
+  rises : pos 0 <ℤ z → WidthWithin h → RiseWithin z → Short (unit *ℤ z) (m *ℤ h) (n *ℤ h) → Judged h z m n (ruling 0 0 (leaning z))
   rises p w r s = monotone w r (monotone-rising p (short-accepts s))
 
-  falls : z <ℤ pos 0 → WidthWithin h → RiseWithin z → Short (negℤ (unit *ℤ z)) (negℤ (m *ℤ h)) (negℤ (n *ℤ h)) → Judged h z m n (answer 0 0 (leaning z))
+  falls : z <ℤ pos 0 → WidthWithin h → RiseWithin z → Short (negℤ (unit *ℤ z)) (negℤ (m *ℤ h)) (negℤ (n *ℤ h)) → Judged h z m n (ruling 0 0 (leaning z))
   falls p w r s = monotone w r (monotone-falling p (short-accepts s))
 
   -- at the fraction k/q
-  against : pos 0 <ℤ z → WidthWithin h → RiseWithin z → (k q : ℕ) → 1 ≤ q → k ≤ q → (pos 0 ≤ℤ slopeAt (unit *ℤ z) (m *ℤ h) (n *ℤ h) (pos k) (pos q) → ⊥) → Judged h z m n (answer 0 0 bends)
+  against : pos 0 <ℤ z → WidthWithin h → RiseWithin z → (k q : ℕ) → 1 ≤ q → k ≤ q → (pos 0 ≤ℤ slopeAt (unit *ℤ z) (m *ℤ h) (n *ℤ h) (pos k) (pos q) → ⊥) → Judged h z m n (ruling 0 0 bends)
   against p w r k q q₁ k₁ f = bent w r (λ o. f (o .rising p .at k q q₁ k₁))
 
 count : {n : ℕ} → T (leb 2 n) → T (leb n 1024) → CountWithin n

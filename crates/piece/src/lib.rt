@@ -3,7 +3,7 @@ ghost use Rattle.integers.specs.Promise.{Decided};
 ghost use Rattle.cubic.specs.Piece.{unit, NeverAgainst, Monotone};
 ghost use Rattle.cubic.specs.Slope.{Inside};
 ghost use Rattle.rules.specs.Limits.{WidthWithin, RiseWithin};
-ghost use Rattle.piece.specs.Promise.{Judged, answerOf};
+ghost use Rattle.piece.specs.Promise.{Judged, rulingOf};
 ghost use Rattle.piece.specs.Sizes.{Moderate, Low};
 ghost use Rattle.piece.specs.Cubic.{Coefficients};
 use rules::Refusal;
@@ -84,7 +84,7 @@ pub fn is_monotone(h: i64, z: i64, m: i32, n: i32) -> bool
 // The verdict on the piece of width h and rise z with the slopes m and n at its ends, or its refusal: by 3 where the width, else by 4 where
 // the rise is outside its limits, at place 0.
 pub fn judge(h: i64, z: i64, m: i32, n: i32) -> Verdict
-    ensures { λ r. ⌜ Judged h z m n (answerOf r) ⌝ }
+    ensures { λ r. ⌜ Judged h z m n (rulingOf r) ⌝ }
 {
     if !rules::width_within(h) {
         return Verdict::Refused(Refusal {
