@@ -19,7 +19,7 @@ use Rattle.rules.specs.Known.{0<-width}
 use Rattle.rules.specs.Refusals.{Given}
 use Rattle.rules.specs.Order.{stopped}
 use Rattle.table.specs.Table.{Table, table, entry, step, Holds, buildOrder, checkOrder}
-use Rattle.table.specs.Accepted.{Points, Accepted, accepted-points}
+use Rattle.table.specs.Accepted.{PointsWithin, Accepted, accepted-points}
 use Rattle.slopes.specs.Slopes.{endAt, innerAt, builtSlope, Built}
 use Rattle.slopes.specs.Cases.{first-slope, inner-slope, last-slope}
 use Rattle.slopes.specs.Put.{tab-entry}
@@ -60,7 +60,7 @@ module _ {ks vs before after : List ℤ} {place : ℕ} (b : Built ks vs before a
   back : (i : ℕ) → i + 1 - 1 ≡ i
   back i = omega arith
 
-  limits : Points ks vs
+  limits : PointsWithin ks vs
   limits = accepted-points refl (b .refusal)
 
   pub at-first : EndRule (step ks 0) (step vs 0) (entry after 0)

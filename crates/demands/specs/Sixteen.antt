@@ -14,7 +14,7 @@ use Rattle.rules.specs.Limits.{CountWithin, WidthWithin, RiseWithin}
 use Rattle.rules.specs.Refusals.{answered}
 use Rattle.rules.specs.Order.{went-on}
 use Rattle.table.specs.Table.{table}
-use Rattle.table.specs.Accepted.{Points, points-accepted}
+use Rattle.table.specs.Accepted.{PointsWithin, points-accepted}
 use Rattle.table.specs.Tested.{points-by-test}
 use Rattle.piece.specs.Promise.{bends, ruling, rulingOf, leaning, Judged, monotone, bent}
 use Rattle.piece.specs.declared.Verdict.{Verdict}
@@ -85,7 +85,7 @@ module _ {h z m n : ℤ} where
 count : {n : ℕ} → T (leb 2 n) → T (leb n 1024) → CountWithin n
 count s t = record { low = lit≤ s; high = lit≤ t }
 
-has-slopes : {knots values these : List ℤ} → Points knots values → these ≡ builtSlopes knots values → Gives (slopes knots values these)
+has-slopes : {knots values these : List ℤ} → PointsWithin knots values → these ≡ builtSlopes knots values → Gives (slopes knots values these)
 has-slopes p e before l = record { refusal = points-accepted p l; slopes = e }
 
 -- in its first piece
