@@ -1,7 +1,7 @@
 // The verdict on one piece: rising, falling, flat or bends, or the refusal of a piece outside the limits. And the cubic of a piece.
 ghost use Rattle.integers.specs.Promise.{Decided};
 ghost use Rattle.cubic.specs.Piece.{unit, NeverAgainst, Monotone};
-ghost use Rattle.cubic.specs.Slope.{Inside};
+ghost use Rattle.cubic.specs.Slope.{InEllipse};
 ghost use Rattle.rules.specs.Limits.{WidthWithin, RiseWithin};
 ghost use Rattle.piece.specs.Promise.{Judged, rulingOf};
 ghost use Rattle.piece.specs.Sizes.{Moderate, Low};
@@ -27,7 +27,7 @@ pub struct Cubic {
 // Fritsch and Carlson's last test, from what a and b have over 3Z. The callers' sizes leave room for both products.
 fn in_ellipse(over: i64, a: i64, b: i64) -> bool
     requires { ⌜ Low over a b ⌝ }
-    ensures { λ r. ⌜ Decided (Inside over a b) r ⌝ }
+    ensures { λ r. ⌜ Decided (InEllipse over a b) r ⌝ }
 {
     over * over <= a * b
 }

@@ -18,7 +18,7 @@ use Rattle.table.specs.Table.{Table, table}
 use Rattle.table.specs.Accepted.{Accepted}
 use Rattle.position.specs.Position.{Belongs, Located}
 use Rattle.position.specs.Refused.{accepted-at}
-use Rattle.position.specs.Spot.{SpotOn, Inside, of-spot, inside-spot}
+use Rattle.position.specs.Spot.{SpotOn, InPiece, of-spot, inside-spot}
 use Rattle.drive.specs.Drive.{Telling, resting, toldOf, ToldIn, Driving, HoldsFor, floatOrder}
 use Rattle.drive.specs.Refused.{as-evaluated, refused-large, taken-small}
 use Rattle.drive.proofs.float_answer.Statement.{statement}
@@ -62,7 +62,7 @@ module _ (c : tie.After-spot-on) where
       let r = c .spot-on .result in
       subst (λ (x : ℤ). SpotOn (curveOf s) i x (r .left) (r .h) (r .z) (r .m) (r .n) (r .t)) (toZ-ofZ (s .fits .position)) (c .spot-on .ensures)
 
-  inside : let r = c .spot-on .result in Inside (r .h) (r .z) (r .m) (r .n) (r .t)
+  inside : let r = c .spot-on .result in InPiece (r .h) (r .z) (r .m) (r .n) (r .t)
   inside = inside-spot (accepted (c .before)) (belongs (c .before)) spot
 
 too-large-requires : tie.Need-too-large-requires
