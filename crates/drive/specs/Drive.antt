@@ -27,7 +27,8 @@ abbrev pub toldOf : Answer → Telling
 toldOf (Dwell level) = dwell level
 toldOf (Move m) = move (m .left) (m .numerator) (m .denominator)
 
--- "A refused float answer is a dwell at level 0", which is +0: not negative, and 0·2^0. It is the one float that is 0 exactly (`plus-zero` of `Exactly.antt` in `floats`).
+-- "A refused float answer is a dwell at level 0", which is +0: not negative, and 0·2^0. It is 0 exactly (`plus-zero` of
+-- `Exactly.antt` in `floats`), and no other 64-bit float is (`one-float` there).
 abbrev pub resting : Telling
 resting = dwell (fin false 0 (pos 0))
 

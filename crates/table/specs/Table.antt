@@ -27,7 +27,8 @@ abbrev pub step : List ℤ → ℕ → ℤ
 step list i = entry list (i + 1) -ℤ entry list i
 
 module _ (t : Table) where
-  -- how many points there are, where the lists are equally long; else the number of knots, which 1 alone looks at
+  -- How many points there are, where the lists are equally long; else the number of knots. The other causes look at that as well, but no answer rests on it: 1 holds
+  -- then, and stands first in every order.
   abbrev pub pointCount : ℕ
   pointCount = length (t .knots)
 
