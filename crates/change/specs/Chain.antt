@@ -5,8 +5,8 @@ use Prim.Native.Nat.{ℕ, zero, suc}
 use lib.IntN.{ℤ}
 use lib.ListN.{length}
 use Rattle.table.specs.declared.changed.Change.{Change}
-use Rattle.table.specs.Table.{Table, table, points}
-use Rattle.table.specs.Accepted.{Points, accepted-points, points-accepted}
+use Rattle.table.specs.Table.{Table, table, pointCount}
+use Rattle.table.specs.Accepted.{PointsWithin, accepted-points, points-accepted}
 use Rattle.table.specs.AfterChange.{accepted-then}
 use Rattle.slopes.specs.Slopes.{Built}
 use Rattle.change.specs.Change.{Changed}
@@ -33,7 +33,7 @@ the-last-is-made (d ∷ cs) (next change chain) =
 
 -- A table whose points are accepted and whose slopes are all as built from them.
 pub record BuiltTable (t : Table) : Type 0 where
-  pub limits : Points (t .knots) (t .values)
+  pub limits : PointsWithin (t .knots) (t .values)
   pub slopes : AllBuilt t
 
 -- a build leaves one
@@ -41,18 +41,18 @@ pub by-a-build : {knots values before after : List ℤ} {place : ℕ} → Built 
 by-a-build b = record { limits = accepted-points refl (b .refusal); slopes = record { built = b .slopes } }
 
 -- and its slopes equal those built afresh: a build of its points, over any list of as many slopes, is not refused and leaves just these
-pub built-afresh : {t : Table} → BuiltTable t → (before : List ℤ) → length before ≡ points t → Built (t .knots) (t .values) before (t .slopes) 0 0
+pub built-afresh : {t : Table} → BuiltTable t → (before : List ℤ) → length before ≡ pointCount t → Built (t .knots) (t .values) before (t .slopes) 0 0
 built-afresh b before e = record { refusal = points-accepted (b .limits) e; slopes = b .slopes .built }
 
 -- a change leaves one, made or refused
 after-a-change : {c : Change} {t u : Table} {number place : ℕ} → Changed c t u number place → BuiltTable t → BuiltTable u
 after-a-change {c} {t} {number = zero} change b =
     record {
-      limits = subst₂ Points (sym (change .knots)) (sym (change .values)) (accepted-then c t refl (change .refusal));
+      limits = subst₂ PointsWithin (sym (change .knots)) (sym (change .values)) (accepted-then c t refl (change .refusal));
       slopes = all-are-then-as-built change (b .slopes);
     }
 after-a-change {number = suc number} change b =
-    record { limits = subst₂ Points (sym (change .knots)) (sym (change .values)) (b .limits); slopes = all-are-then-as-built change (b .slopes) }
+    record { limits = subst₂ PointsWithin (sym (change .knots)) (sym (change .values)) (b .limits); slopes = all-are-then-as-built change (b .slopes) }
 
 after-a-chain : {cs : List Change} {t u : Table} → Chain cs t u → BuiltTable t → BuiltTable u
 after-a-chain none b = b
@@ -60,5 +60,5 @@ after-a-chain (next change chain) b = after-a-chain chain (after-a-change change
 
 -- THE CHAIN: a table is built, any list of changes is made, and the slopes that then stand there are those of a fresh build of the points that then stand there.
 pub the-slopes-equal-those-built-afresh : {knots values before slopes again : List ℤ} {place : ℕ} {cs : List Change} {t : Table}
-    → Built knots values before slopes 0 place → Chain cs (table knots values slopes) t → length again ≡ points t → Built (t .knots) (t .values) again (t .slopes) 0 0
+    → Built knots values before slopes 0 place → Chain cs (table knots values slopes) t → length again ≡ pointCount t → Built (t .knots) (t .values) again (t .slopes) 0 0
 the-slopes-equal-those-built-afresh {again = again} build chain e = built-afresh (after-a-chain chain (by-a-build build)) again e

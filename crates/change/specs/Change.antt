@@ -1,5 +1,5 @@
 -- "Changing a point" of the exact rules, for a whole table. Whoever believes the promise of `point` believes this file and what it cites: the points as they would be
--- and the causes of a refusal (`Changed.antt` and `Table.antt` of `table`), the slopes that are built (`Slopes.antt` of `slopes`), and the refusals (of `rules`).
+-- and the causes of a refusal (`WouldBe.antt` and `Table.antt` of `table`), the slopes that are built (`Slopes.antt` of `slopes`), and the refusals (of `rules`).
 use mathlib.Core.Path.{_≡_}
 use mathlib.Core.Bool.{Bool, cond, _||_}
 use mathlib.Core.List.{List}
@@ -10,7 +10,7 @@ use lib.ListN.{length}
 use Rattle.rules.specs.Refusals.{Given, afterwards}
 use Rattle.table.specs.declared.changed.Change.{Change}
 use Rattle.table.specs.Table.{Table, entry}
-use Rattle.table.specs.Changed.{changedBy, HoldsAfter, changeOrder}
+use Rattle.table.specs.WouldBe.{changedBy, HoldsAfter, changeOrder}
 use Rattle.slopes.specs.Slopes.{tab, builtSlope}
 
 -- "slopes k−1, k and k+1": whether i is one of them. That it is k−1 is written as i + 1 = k, which no i is where k is 0.

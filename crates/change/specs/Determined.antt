@@ -7,7 +7,7 @@ use Rattle.rules.specs.Refusals.{afterwards}
 use Rattle.rules.specs.Order.{one-given}
 use Rattle.table.specs.declared.changed.Change.{Change}
 use Rattle.table.specs.Table.{Table, table}
-use Rattle.table.specs.Changed.{changedBy}
+use Rattle.table.specs.WouldBe.{changedBy}
 use Rattle.change.specs.Change.{renewedSlopes, Changed}
 
 pub one-change : {c : Change} {t u v : Table} {m n p q : ℕ} → Changed c t u m p → Changed c t v n q → (m ≡ n) × (p ≡ q) × (u ≡ v)

@@ -10,7 +10,7 @@ use Rattle.rules.specs.Refusals.{refused, passed}
 use Rattle.table.specs.Table.{Table, table, Holds, width-outside}
 use Rattle.table.specs.Accepted.{same-length-passes, count-passes, points-accepted}
 use Rattle.table.specs.Tested.{points-by-test}
-use Rattle.table.specs.Changed.{changedBy}
+use Rattle.table.specs.WouldBe.{changedBy}
 use Rattle.table.specs.AfterChange.{as-changed}
 use Rattle.change.specs.Change.{Changed}
 

@@ -8,8 +8,8 @@ use lib.IntN.{ℤ}
 use Rattle.rules.specs.Refusals.{Given, done, refused, passed}
 use Rattle.rules.specs.Order.{one-given, stopped, carried}
 use Rattle.table.specs.declared.changed.Change.{Change}
-use Rattle.table.specs.Table.{Table, points, buildOrder}
-use Rattle.table.specs.Changed.{changedBy, HoldsAfter, changeOrder}
+use Rattle.table.specs.Table.{Table, pointCount, buildOrder}
+use Rattle.table.specs.WouldBe.{changedBy, HoldsAfter, changeOrder}
 use Rattle.table.specs.AfterChange.{beside-7, as-a-build, refused-nowhere, point-there}
 use Rattle.slopes.specs.Slopes.{Built}
 use Rattle.change.specs.Change.{Changed}
@@ -28,7 +28,7 @@ later (refused h e) = (λ e. omega arith, λ e. omega arith)
 later (passed f (refused h e)) = (λ e. omega arith, λ e. omega arith)
 later (passed f (passed g done)) = (λ e. omega arith, λ e. omega arith)
 
-nowhere : {c : Change} {t : Table} {m q n p : ℕ} → points t ≤ c .point → Given (HoldsAfter c t) buildOrder m q → Given (HoldsAfter c t) changeOrder n p → Nowhere m q n p
+nowhere : {c : Change} {t : Table} {m q n p : ℕ} → pointCount t ≤ c .point → Given (HoldsAfter c t) buildOrder m q → Given (HoldsAfter c t) changeOrder n p → Nowhere m q n p
 nowhere l (refused h e) g = answered (refused h e) g (by-the-lists (inl refl))
 nowhere l (passed f (refused h e)) g = answered (passed f (refused h e)) g (by-the-lists (inr refl))
 nowhere {c} {t} l (passed f (passed g more)) h =
@@ -37,16 +37,16 @@ nowhere {c} {t} l (passed f (passed g more)) h =
 -- the change c of the table t answers n at p, and a fresh build of the changed points, over the same slope list, answers m at q
 module _ {c : Change} {t u : Table} {after : List ℤ} {n p m q : ℕ} (change : Changed c t u n p) (build : Built (changedBy c t .knots) (changedBy c t .values) (t .slopes) after m q) where
   -- where the point is there, both answer the same
-  pub refused-as-a-build-is : c .point < points t → (n ≡ m) × (p ≡ q)
+  pub refused-as-a-build-is : c .point < pointCount t → (n ≡ m) × (p ≡ q)
   refused-as-a-build-is l = one-given (as-a-build c t l (change .refusal)) (build .refusal)
 
   -- where it isn't, the change is refused
-  pub refused-where-no-point-is : points t ≤ c .point → Nowhere m q n p
+  pub refused-where-no-point-is : pointCount t ≤ c .point → Nowhere m q n p
   refused-where-no-point-is l = nowhere l (carried (beside-7 c t buildOrder tt) (build .refusal)) (change .refusal)
 
   -- so it is made exactly where the point is there and the build is not refused
-  pub made-only-then : n ≡ 0 → (c .point < points t) × (m ≡ 0)
+  pub made-only-then : n ≡ 0 → (c .point < pointCount t) × (m ≡ 0)
   made-only-then e = let l = point-there c t e (change .refusal) in (l, sym (refused-as-a-build-is l .0) ∙ e)
 
-  pub made-then : c .point < points t → m ≡ 0 → n ≡ 0
+  pub made-then : c .point < pointCount t → m ≡ 0 → n ≡ 0
   made-then l e = refused-as-a-build-is l .0 ∙ e

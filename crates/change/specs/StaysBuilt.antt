@@ -13,7 +13,7 @@ use Rattle.cubic.specs.Piece.{unit}
 use Rattle.cubic.specs.Slopes.{endSlope, innerSlope}
 use Rattle.table.specs.declared.changed.Change.{Change}
 use Rattle.table.specs.Table.{Table, entry, step}
-use Rattle.table.specs.Changed.{changedBy}
+use Rattle.table.specs.WouldBe.{changedBy}
 use Rattle.slopes.specs.Slopes.{endAt, innerAt, builtSlope, builtSlopes, tab}
 use Rattle.slopes.specs.Cases.{first-slope, last-slope, inner-slope}
 use Rattle.slopes.specs.Put.{tab-length, tab-entry}

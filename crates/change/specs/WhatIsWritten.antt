@@ -8,8 +8,8 @@ use lib.IntN.{ℤ, pos}
 use lib.ListN.{length}
 use lib.Seq.{getD-set-same, getD-set-other}
 use Rattle.table.specs.declared.changed.Change.{Change}
-use Rattle.table.specs.Table.{Table, entry, points}
-use Rattle.table.specs.Changed.{changedBy}
+use Rattle.table.specs.Table.{Table, entry, pointCount}
+use Rattle.table.specs.WouldBe.{changedBy}
 use Rattle.table.specs.AfterChange.{point-there, equally-long}
 use Rattle.slopes.specs.Slopes.{builtSlope}
 use Rattle.slopes.specs.Put.{tab-entry}
@@ -17,7 +17,7 @@ use Rattle.change.specs.Change.{beside, Changed}
 use Rattle.change.specs.Beside.{Near, beside-near, beside-far}
 
 module _ {c : Change} {t u : Table} {place : ℕ} (change : Changed c t u 0 place) where
-  there : c .point < points t
+  there : c .point < pointCount t
   there = point-there c t refl (change .refusal)
 
   in-values : c .point < length (t .values)
@@ -36,12 +36,12 @@ module _ {c : Change} {t u : Table} {place : ℕ} (change : Changed c t u 0 plac
   no-other-value-changes i f = ap (λ (list : List ℤ). entry list i) (change .values) ∙ getD-set-other (t .values) (c .point) i (c .value) (pos 0) f
 
   -- slope i, as the definition has it
-  slope-at : (i : ℕ) → i < points t → entry (u .slopes) i ≡ cond (beside (c .point) i) (builtSlope (changedBy c t .knots) (changedBy c t .values) i) (entry (t .slopes) i)
+  slope-at : (i : ℕ) → i < pointCount t → entry (u .slopes) i ≡ cond (beside (c .point) i) (builtSlope (changedBy c t .knots) (changedBy c t .values) i) (entry (t .slopes) i)
   slope-at i l =
       ap (λ (list : List ℤ). entry list i) (change .slopes)
       ∙ tab-entry (length (t .slopes)) (λ i. cond (beside (c .point) i) (builtSlope (changedBy c t .knots) (changedBy c t .values) i) (entry (t .slopes) i)) i (omega (arith, l, equally-long c t refl (change .refusal) .slopes))
 
-  pub the-slopes-at-it-and-beside-it-are-renewed : (i : ℕ) → i < points t → Near (c .point) i → entry (u .slopes) i ≡ builtSlope (u .knots) (u .values) i
+  pub the-slopes-at-it-and-beside-it-are-renewed : (i : ℕ) → i < pointCount t → Near (c .point) i → entry (u .slopes) i ≡ builtSlope (u .knots) (u .values) i
   the-slopes-at-it-and-beside-it-are-renewed i l near =
       slope-at i l ∙ chosen _ _ (beside (c .point) i) refl ∙ ap₂ (λ (ks vs : List ℤ). builtSlope ks vs i) (sym (change .knots)) (sym (change .values))
     where
@@ -49,7 +49,7 @@ module _ {c : Change} {t u : Table} {place : ℕ} (change : Changed c t u 0 plac
       chosen x y true e = refl
       chosen x y false e = absurd (beside-far (c .point) i e near)
 
-  pub no-other-slope-changes : (i : ℕ) → i < points t → (Near (c .point) i → ⊥) → entry (u .slopes) i ≡ entry (t .slopes) i
+  pub no-other-slope-changes : (i : ℕ) → i < pointCount t → (Near (c .point) i → ⊥) → entry (u .slopes) i ≡ entry (t .slopes) i
   no-other-slope-changes i l far = slope-at i l ∙ chosen _ _ (beside (c .point) i) refl
     where
       chosen : (x y : ℤ) (b : Bool) → beside (c .point) i ≡ b → cond b x y ≡ y

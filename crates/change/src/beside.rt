@@ -2,7 +2,7 @@
 ghost use mathlib.Core.Path.{_≡_};
 ghost use Prim.Native.Nat.{_+_, _-_, _<_, min};
 ghost use lib.ListN.{length};
-ghost use Rattle.table.specs.Accepted.{Points};
+ghost use Rattle.table.specs.Accepted.{PointsWithin};
 ghost use Rattle.slopes.specs.Slopes.{builtSlope};
 ghost use Rattle.change.specs.Change.{renewed};
 
@@ -29,7 +29,7 @@ fn end(k: usize, n: usize) -> usize
 
 // Puts the slopes of these points into their places, as a build does.
 pub(crate) fn renew(knots: &[i32], values: &[i32], slopes: &mut [i32], k: usize)
-    requires { ⌜ Points (now knots) (now values) ⌝ }
+    requires { ⌜ PointsWithin (now knots) (now values) ⌝ }
     requires { ⌜ length (now slopes) ≡ length (now knots) ⌝ }
     requires { ⌜ k < length (now knots) ⌝ }
     ensures { λ _. ⌜ now (slopes .exit) ≡ renewed k (builtSlope (now (knots .entry)) (now (values .entry))) (now (slopes .entry)) ⌝ }

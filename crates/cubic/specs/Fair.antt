@@ -17,7 +17,7 @@ use Rattle.cubic.specs.Piece.{NeverAgainst, Monotone}
 use Rattle.cubic.specs.Monotone.{monotone-rising, monotone-falling, monotone-level}
 use Rattle.cubic.specs.Slopes.{endSlope, meanAbove, meanBelow, mean, innerSlope}
 use Rattle.cubic.specs.Inner.{inner-level, inner-steep}
-use Rattle.cubic.specs.Built.{box-accepts, meanBelow-mirrored, mean-in-box}
+use Rattle.cubic.specs.Box.{box-accepts, meanBelow-mirrored, mean-in-box}
 
 -- a slope with the sign of the rise and at most three times as steep as the piece
 pub record Fair (U h z m : ℤ) : Type 0 where

@@ -10,6 +10,6 @@ pub mod Value
 pub mod Along
 pub mod InOrder
 pub mod Small
-pub mod Built
+pub mod Box
 pub mod Inner
 pub mod Fair

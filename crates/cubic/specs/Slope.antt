@@ -48,7 +48,7 @@ abbrev pub over : (Z a b : ℤ) → ℤ
 over Z a b = a +ℤ b -ℤ pos 3 *ℤ Z
 
 -- in the ellipse, by what a and b have over 3Z
-pub record Inside (o a b : ℤ) : Type 0 where
+pub record InEllipse (o a b : ℤ) : Type 0 where
   pub inside : (o *ℤ o) ≤ℤ (a *ℤ b)
 
 pub ellipse-over : (Z a b : ℤ) → ellipse Z a b ≡ over Z a b *ℤ over Z a b -ℤ a *ℤ b

@@ -9,14 +9,14 @@ use lib.Signed.{_≤ℤ_, _<ℤ_}
 use Rattle.integers.specs.Linear.{lin, says}
 use Rattle.integers.specs.Order.{0≤-number, ≤ℤ-or-<ℤ, pos-≤}
 use Rattle.cubic.specs.Piece.{NeverAgainst}
-use Rattle.cubic.specs.Slope.{below-line, in-ellipse, ellipse, ellipse-over, over, Inside, steep, turn}
+use Rattle.cubic.specs.Slope.{below-line, in-ellipse, ellipse, ellipse-over, over, InEllipse, steep, turn}
 use Rattle.cubic.specs.Never.{start-not-against, end-not-against, least-inside, inside-ellipse}
 
 -- ---- the short test: not above the line a + b = 3Z, or above it and in the ellipse
 
 pub data Short (Z a b : ℤ) : Type 0 where
   line : pos 0 ≤ℤ a → pos 0 ≤ℤ b → over Z a b ≤ℤ pos 0 → Short Z a b
-  oval : pos 0 ≤ℤ a → pos 0 ≤ℤ b → pos 0 <ℤ over Z a b → Inside (over Z a b) a b → Short Z a b
+  oval : pos 0 ≤ℤ a → pos 0 ≤ℤ b → pos 0 <ℤ over Z a b → InEllipse (over Z a b) a b → Short Z a b
 
 pub short-accepts : {Z a b : ℤ} → Short Z a b → NeverAgainst Z a b
 short-accepts {Z} {a} {b} (line a₀ b₀ s) =
@@ -37,7 +37,7 @@ short-accepts {Z} {a} {b} (oval a₀ b₀ s d) =
 outer : (d s p : ℤ) → d ≡ s -ℤ p → d ≤ℤ pos 0 → s ≤ℤ p
 outer d s p = lin (d ∷ s ∷ p ∷ []) (search says depth 30 fits 9000) (omega arith)
 
-pub in-oval : {Z a b : ℤ} → NeverAgainst Z a b → pos 0 <ℤ over Z a b → Inside (over Z a b) a b
+pub in-oval : {Z a b : ℤ} → NeverAgainst Z a b → pos 0 <ℤ over Z a b → InEllipse (over Z a b) a b
 in-oval {Z} {a} {b} f s = record { inside = outer _ _ _ (ellipse-over Z a b) (inside-ellipse f (above Z a b s)) }
   where
     above : (Z a b : ℤ) → pos 0 <ℤ over Z a b → (pos 3 *ℤ Z) <ℤ (a +ℤ b)

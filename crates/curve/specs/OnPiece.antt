@@ -11,9 +11,9 @@ use Rattle.cubic.specs.Value.{risen}
 use Rattle.cubic.specs.Along.{Along, Amid, upwards, downwards, amid, part-within}
 use Rattle.cubic.specs.InOrder.{risen-from-left, risen-to-right}
 use Rattle.rules.specs.Known.{0<-width, rise-size}
-use Rattle.position.specs.Spot.{Inside}
+use Rattle.position.specs.Spot.{InPiece}
 
-module _ {h z m n t : ℤ} (o : Inside h z m n t) where
+module _ {h z m n t : ℤ} (o : InPiece h z m n t) where
   from-left : Along z (pos 0) (risen unit h z m n t)
   from-left = risen-from-left {U = unit} (ltZ-yes tt) (0<-width (o .width)) (o .monotone) t (o .place .low) (o .place .high)
 

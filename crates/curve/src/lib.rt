@@ -6,7 +6,7 @@ ghost use mir.Val.{SFits};
 ghost use Rattle.cubic.specs.Piece.{unit};
 ghost use Rattle.cubic.specs.Value.{risen};
 ghost use Rattle.table.specs.Table.{table};
-ghost use Rattle.position.specs.Spot.{Inside};
+ghost use Rattle.position.specs.Spot.{InPiece};
 ghost use Rattle.curve.specs.Curve.{Evaluated};
 
 mod rise;
@@ -23,7 +23,7 @@ pub struct Value {
 
 // The value in a piece: the left value, and what the curve has risen by since. It lies between the piece's two values, so that it fits.
 fn value_on(s: Spot) -> i32
-    requires { ⌜ Inside (s .h) (s .z) (s .m) (s .n) (s .t) ⌝ }
+    requires { ⌜ InPiece (s .h) (s .z) (s .m) (s .n) (s .t) ⌝ }
     requires { ⌜ SFits w32 (s .left +ℤ s .z) ⌝ }
     ensures { λ r. ⌜ r ≡ s .left +ℤ risen unit (s .h) (s .z) (s .m) (s .n) (s .t) ⌝ }
 {

@@ -6,7 +6,7 @@ ghost use Rattle.cubic.specs.Piece.{unit};
 ghost use Rattle.cubic.specs.Horner.{byHorner};
 ghost use Rattle.cubic.specs.Value.{risen};
 ghost use Rattle.rules.specs.Limits.{WidthWithin};
-ghost use Rattle.position.specs.Spot.{Inside};
+ghost use Rattle.position.specs.Spot.{InPiece};
 ghost use Rattle.curve.specs.Sizes.{Small};
 
 // The cubic first·t·h² + second·t²·h + third·t³, by Horner's steps. The coefficients of an accepted piece are so small that each step fits.
@@ -21,7 +21,7 @@ fn numerator(first: i64, second: i64, third: i64, t: i64, h: i64) -> i64
 
 // Its quotient by 256·h³, rounded down: below zero too, where the piece falls.
 pub(crate) fn risen(h: i64, z: i64, m: i32, n: i32, t: i64) -> i64
-    requires { ⌜ Inside h z m n t ⌝ }
+    requires { ⌜ InPiece h z m n t ⌝ }
     ensures { λ r. ⌜ r ≡ risen unit h z m n t ⌝ }
 {
     let cubic = piece::coefficients(h, z, m, n);

@@ -11,7 +11,7 @@
 --   r .field, record, data        what the record r holds there; all of the lines below it hold; one of the lines below it holds
 --   table ks vs ss, changedBy c t a table of three lists; its points as they would be after the change c
 --   Holds, HoldsAt, HoldsFor,     the cause with a number holds at a place: of a table, at a position, for a float answer, and of the points as they would be after
---     HoldsAfter                  a change (`Table.antt` and `Changed.antt` of `table`, `Position.antt` of `position`, `Drive.antt` of `drive`)
+--     HoldsAfter                  a change (`Table.antt` and `WouldBe.antt` of `table`, `Position.antt` of `position`, `Drive.antt` of `drive`)
 --   WidthWithin, RiseWithin       the limits of document 01 (`Limits.antt` of `rules`)
 --   Belongs ks x i                the position x belongs to piece i: a knot to the piece that starts there, and the last one to the last piece (`Position.antt`)
 --   Near k i                      i is k − 1, k or k + 1 (`Beside.antt` of `change`)
@@ -30,10 +30,10 @@ use Rattle.cubic.specs.Piece.{unit, slopeAt, riseAt}
 use Rattle.rules.specs.Limits.{WidthWithin, RiseWithin}
 use Rattle.table.specs.declared.changed.Change.{Change}
 use Rattle.table.specs.Table.{Table, table, entry, step, Holds}
-use Rattle.table.specs.Changed.{changedBy, HoldsAfter}
-use Rattle.piece.specs.Promise.{Word, rising, falling, flat}
+use Rattle.table.specs.WouldBe.{changedBy, HoldsAfter}
+use Rattle.piece.specs.Promise.{Finding, rising, falling, flat}
 use Rattle.position.specs.Position.{Belongs, HoldsAt}
-use Rattle.drive.specs.Drive.{Told, HoldsFor}
+use Rattle.drive.specs.Drive.{Telling, HoldsFor}
 use Rattle.change.specs.Beside.{Near}
 
 -- ======== What an implementation is
@@ -49,13 +49,13 @@ pub data Call : Type 0 where
 
 -- What is answered beside the refusal: a verdict, a piece, a value, what the drive is told, or nothing.
 abbrev pub Reply : Call → Type 0
-Reply (judge h z m n) = Word
+Reply (judge h z m n) = Finding
 Reply (points t) = Unit
 Reply (build t) = Unit
 Reply (check t) = Unit
 Reply (locate t x) = ℕ
 Reply (evaluate t x) = ℤ
-Reply (float-answer t x) = Told
+Reply (float-answer t x) = Telling
 Reply (changed-points c t) = Unit
 Reply (point made c t) = Unit
 
@@ -178,7 +178,7 @@ pub record Demand1 (I : Implementation) : Type 0 where
 -- ======== The second demand
 
 -- a yes: the piece is called by its rise, and not `bends`
-pub data Yes (z : ℤ) : Word → Type 0 where
+pub data Yes (z : ℤ) : Finding → Type 0 where
   it-rises : pos 0 <ℤ z → Yes z rising
   it-falls : z <ℤ pos 0 → Yes z falling
   it-is-flat : z ≡ pos 0 → Yes z flat

@@ -13,11 +13,11 @@ use Rattle.rules.specs.Refusals.{Given, answered}
 use Rattle.rules.specs.Order.{went-on}
 use Rattle.table.specs.Accepted.{points-accepted, accepted-table}
 use Rattle.piece.specs.declared.Verdict.the-variants.{Rising}
-use Rattle.piece.specs.Promise.{rising, answer, Judged, monotone}
+use Rattle.piece.specs.Promise.{rising, ruling, Judged, monotone}
 use Rattle.position.specs.Position.{Belongs, inside, HoldsAt, evaluationOrder}
 use Rattle.position.specs.Refused.{as-checked, taken-inside}
 use Rattle.drive.specs.declared.Answer.the-variants.{Move}
-use Rattle.drive.specs.Drive.{Told, move, Driving}
+use Rattle.drive.specs.Drive.{Telling, move, Driving}
 use Rattle.drive.specs.Figures.{on-the-fall}
 use Rattle.drive.specs.Refused.{as-evaluated, taken-small}
 use Rattle.exports.specs.Cases.{judged, moves}
@@ -28,7 +28,7 @@ use Rattle.demands.specs.Wrong.{outcome, two, two-within, two-built, two
 use Rattle.demands.specs.Wrong3.{lowering, lowered, is-lowered}
 
 -- 23038 and 6912 are 11519·2 and 27·2^8
-abbrev numerator : Told
+abbrev numerator : Telling
 numerator = move (fin false 0 (pos 0)) (fin true 11519 (pos 1)) (fin false 27 (pos 8))
 
 -- (0,0), (3,−10) at position 1, and (0,0), (1,1), (2,4), (3,7) with point 0 changed to (0,−2)
@@ -43,7 +43,7 @@ pub record Worked (I : Implementation) : Type 0 where
   pub changed-points-are : I .May (changed-points lowering four) (outcome 0 0 tt tt)
   pub a-change : I .May (point [] lowering four) (outcome 0 0 tt lowered)
 
-straight : Judged (pos 1) (pos 1) (pos 256) (pos 256) (answer 0 0 rising)
+straight : Judged (pos 1) (pos 1) (pos 256) (pos 256) (ruling 0 0 rising)
 straight = monotone (within tt tt) (within tt tt) (monotone-rising (ltZ-yes tt) (short-accepts (line (leZ-yes tt) (leZ-yes tt) (leZ-yes tt))))
 
 in-piece-0 : Belongs (two .knots) (pos 1) 0

@@ -7,20 +7,20 @@ use lib.Ieee.{Float}
 use Rattle.rules.specs.declared.Refusal.{Refusal}
 use Rattle.rules.specs.Refusals.{Given}
 use Rattle.table.specs.Table.{Table, Holds, buildOrder, checkOrder}
-use Rattle.table.specs.Changed.{HoldsAfter, changeOrder}
-use Rattle.piece.specs.Promise.{Word, rising, falling, flat, bends, none, answer, Judged}
+use Rattle.table.specs.WouldBe.{HoldsAfter, changeOrder}
+use Rattle.piece.specs.Promise.{Finding, rising, falling, flat, bends, none, ruling, Judged}
 use Rattle.slopes.specs.Slopes.{Built}
 use Rattle.position.specs.Position.{Located}
 use Rattle.curve.specs.Curve.{Evaluated}
-use Rattle.drive.specs.Drive.{Told, dwell, move, Driving}
+use Rattle.drive.specs.Drive.{Telling, dwell, move, Driving}
 use Rattle.change.specs.Change.{Changed}
-use Rattle.exports.specs.declared.answers.Told as Told'
+use Rattle.exports.specs.declared.answers.Told.{Told}
 use Rattle.exports.specs.Cases.{verdictNumber, JudgedAs, judged, DrivenAs, dwells, moves}
 use Rattle.demands.specs.Demands.{Call, judge, points, build, check, locate, evaluate, float-answer, changed-points, point, Outcome, Implementation}
 use Rattle.demands.specs.Ours.{ours, ours-in-C, CrossedAs, a-dwell, a-move}
 
 abbrev pub Promised : (call : Call) → Outcome call → Type 0
-Promised (judge h z m n) o = Judged h z m n (answer (o .number) (o .place) (o .answer))
+Promised (judge h z m n) o = Judged h z m n (ruling (o .number) (o .place) (o .answer))
 Promised (points t) o = Given (Holds t) buildOrder (o .number) (o .place)
 Promised (build t) o = Built (t .knots) (t .values) (t .slopes) (o .lists) (o .number) (o .place)
 Promised (check t) o = Given (Holds t) checkOrder (o .number) (o .place)
@@ -61,22 +61,22 @@ ours-keeps = record { promised = promised; free = free }
 
 -- ---- in C a verdict crosses as its number, and what the drive is told as a record
 
-abbrev named : ℕ → Word
+abbrev named : ℕ → Finding
 named zero = none
 named (suc zero) = rising
 named (suc (suc zero)) = falling
 named (suc (suc (suc zero))) = flat
 named (suc (suc (suc (suc n)))) = bends
 
-there-and-back : (w : Word) → named (verdictNumber w) ≡ w
+there-and-back : (w : Finding) → named (verdictNumber w) ≡ w
 there-and-back rising = refl
 there-and-back falling = refl
 there-and-back flat = refl
 there-and-back bends = refl
 there-and-back none = refl
 
-by-number : {h z m n : ℤ} {k p v : ℕ} → JudgedAs h z m n k p v → Judged h z m n (answer k p (named v))
-by-number {h} {z} {m} {n} {k} {p} (judged {w} j) = subst (λ (w : Word). Judged h z m n (answer k p w)) (sym (there-and-back w)) j
+by-number : {h z m n : ℤ} {k p v : ℕ} → JudgedAs h z m n k p v → Judged h z m n (ruling k p (named v))
+by-number {h} {z} {m} {n} {k} {p} (judged {w} j) = subst (λ (w : Finding). Judged h z m n (ruling k p w)) (sym (there-and-back w)) j
 
 module _ {t : Table} {x : ℤ} {k p : ℕ} where
   as-dwell : {kind : ℕ} {left above below : Float} → kind ≡ 0 → DrivenAs t x k p kind left above below → Driving t x k p (dwell left)
@@ -87,7 +87,7 @@ module _ {t : Table} {x : ℤ} {k p : ℕ} where
   as-move e (dwells d nought one) = absurd (omega (arith, e))
   as-move e (moves d) = d
 
-crossed : {t : Table} {x : ℤ} {a : Told} {r : Told'.Told} → CrossedAs a r → DrivenAs t x (r .refusal .number) (r .refusal .place) (r .kind) (r .left) (r .numerator) (r .denominator) → Driving t x (r .refusal .number) (r .refusal .place) a
+crossed : {t : Table} {x : ℤ} {a : Telling} {r : Told} → CrossedAs a r → DrivenAs t x (r .refusal .number) (r .refusal .place) (r .kind) (r .left) (r .numerator) (r .denominator) → Driving t x (r .refusal .number) (r .refusal .place) a
 crossed (a-dwell e) d = as-dwell e d
 crossed (a-move e) d = as-move e d
 
@@ -95,7 +95,7 @@ pub ours-in-C-keeps : Keeps ours-in-C
 ours-in-C-keeps = record { promised = promised; free = free }
   where
     promised : (call : Call) (o : Outcome call) → ours-in-C .May call o → Promised call o
-    promised (judge h z m n) o p = subst (λ (w : Word). Judged h z m n (answer (o .number) (o .place) w)) (there-and-back (o .answer)) (by-number p)
+    promised (judge h z m n) o p = subst (λ (w : Finding). Judged h z m n (ruling (o .number) (o .place) w)) (there-and-back (o .answer)) (by-number p)
     promised (points t) o p = p
     promised (build t) o p = p
     promised (check t) o p = p

@@ -14,12 +14,12 @@ use Rattle.rules.specs.Order.{one-given, went-on, passes-at-0, kept, answer-rig
 use Rattle.integers.specs.Signs.{by-sign}
 use Rattle.table.specs.declared.changed.Change.{Change}
 use Rattle.table.specs.Table.{Table, table, entry, Holds, not-monotone, buildOrder, checkOrder}
-use Rattle.table.specs.Accepted.{Points, accepted-points, accepted-table}
-use Rattle.table.specs.Changed.{changedBy}
+use Rattle.table.specs.Accepted.{PointsWithin, accepted-points, accepted-table}
+use Rattle.table.specs.WouldBe.{changedBy}
 use Rattle.table.specs.AfterChange.{as-changed, accepted-then}
-use Rattle.piece.specs.Promise.{Word, bends, Answer, answer, Judged, width-refused, rise-refused, monotone, bent}
+use Rattle.piece.specs.Promise.{Finding, bends, Ruling, ruling, Judged, width-refused, rise-refused, monotone, bent}
 use Rattle.piece.specs.Leaning.{is-rising, is-falling, is-flat}
-use Rattle.piece.specs.Determined.{one-answer}
+use Rattle.piece.specs.Determined.{one-ruling}
 use Rattle.slopes.specs.Slopes.{builtSlope, Built}
 use Rattle.slopes.specs.Put.{tab-length, tab-entry}
 use Rattle.slopes.specs.Determined.{one-build}
@@ -45,7 +45,7 @@ width-taken w p (width-outside f) = f w
 pub rise-taken : {h z : ℤ} → RiseWithin z → (p : ℕ) → HoldsAlone h z 4 p → ⊥
 rise-taken r p (rise-outside f) = f r
 
-alone : {h z m n : ℤ} {k p : ℕ} {word : Word} → Judged h z m n (answer k p word) → Given (HoldsAlone h z) (3 ∷ 4 ∷ []) k p
+alone : {h z m n : ℤ} {k p : ℕ} {finding : Finding} → Judged h z m n (ruling k p finding) → Given (HoldsAlone h z) (3 ∷ 4 ∷ []) k p
 alone (width-refused f) = refused (width-outside f) (λ _ l _. absurd (omega (arith, l)))
 alone (rise-refused w f) = passed (width-taken w) (refused (rise-outside f) (λ _ l _. absurd (omega (arith, l))))
 alone (monotone w r o) = passed (width-taken w) (passed (rise-taken r) done)
@@ -91,18 +91,18 @@ untouched (point made c t) o p f =
 
 -- ---- 2
 
-abbrev said : Answer → Word
-said (answer number place word) = word
+abbrev said : Ruling → Finding
+said (ruling number place finding) = finding
 
-a-piece-by-its-promise : {h z m n : ℤ} {number place : ℕ} {word : Word} → WidthWithin h → RiseWithin z → Judged h z m n (answer number place word) → Yes z word ↔ NoSlopeAgainstItsRise h z m n
-a-piece-by-its-promise {h} {z} {m} {n} {word = word} w l j = (
-  λ y. no-slope-against (monotone-stable (λ f. not-bends y (ap said (one-answer j (bent w l f))))),
+a-piece-by-its-promise : {h z m n : ℤ} {number place : ℕ} {finding : Finding} → WidthWithin h → RiseWithin z → Judged h z m n (ruling number place finding) → Yes z finding ↔ NoSlopeAgainstItsRise h z m n
+a-piece-by-its-promise {h} {z} {m} {n} {finding = finding} w l j = (
+  λ y. no-slope-against (monotone-stable (λ f. not-bends y (ap said (one-ruling j (bent w l f))))),
   λ s. let o = monotone-without s in
-      by-sign z (λ p. subst (Yes z) (ap said (one-answer (is-rising w l p o) j)) (it-rises p)) (λ p. subst (Yes z) (ap said (one-answer (is-falling w l p o) j)) (it-falls p))
-      (λ e. subst (Yes z) (ap said (one-answer (is-flat w l e o) j)) (it-is-flat e)),
+      by-sign z (λ p. subst (Yes z) (ap said (one-ruling (is-rising w l p o) j)) (it-rises p)) (λ p. subst (Yes z) (ap said (one-ruling (is-falling w l p o) j)) (it-falls p))
+      (λ e. subst (Yes z) (ap said (one-ruling (is-flat w l e o) j)) (it-is-flat e)),
 )
   where
-    not-bends : Yes z word → word ≡ bends → ⊥
+    not-bends : Yes z finding → finding ≡ bends → ⊥
     not-bends y e = elim (subst (Yes z) e y) [ ]
 
 a-table-by-its-promise : {t : Table} {number place : ℕ} → NoneHolds (Holds t) buildOrder → Given (Holds t) checkOrder number place → (number ≡ 0) ↔ NoneAgainst t
@@ -133,8 +133,8 @@ its-value-is-exact e p =
 -- ---- 3
 
 -- the limits of the points that an accepted change leaves
-within-then : {c : Change} {before after : Table} {place : ℕ} → Changed c before after 0 place → Points (after .knots) (after .values)
-within-then {c} {before} change = subst₂ Points (sym (change .knots)) (sym (change .values)) (accepted-then c before refl (change .refusal))
+within-then : {c : Change} {before after : Table} {place : ℕ} → Changed c before after 0 place → PointsWithin (after .knots) (after .values)
+within-then {c} {before} change = subst₂ PointsWithin (sym (change .knots)) (sym (change .values)) (accepted-then c before refl (change .refusal))
 
 just-this : {c : Change} {before after : Table} {number place : ℕ} → number ≡ 0 → Changed c before after number place → JustThis c before after
 just-this {c} {before} {after} {place = place} e p =

@@ -8,10 +8,10 @@ use denote.Ref.{RefT}
 use Rattle.rules.specs.declared.Refusal.{Refusal}
 use Rattle.table.specs.Table.{Table}
 use Rattle.piece.specs.declared.Verdict.{Verdict}
-use Rattle.piece.specs.Promise.{answer, answerOf}
+use Rattle.piece.specs.Promise.{ruling, rulingOf}
 use Rattle.drive.specs.declared.Answer as Answer
-use Rattle.drive.specs.Drive.{Told, dwell, move, toldOf}
-use Rattle.exports.specs.declared.answers.Told as Told'
+use Rattle.drive.specs.Drive.{Telling, dwell, move, toldOf}
+use Rattle.exports.specs.declared.answers.Told.{Told}
 use Rattle.exports.specs.Cases.{verdictNumber}
 use Rattle.demands.specs.Demands.{Call, judge, points, build, check, locate, evaluate, float-answer, changed-points, point, Outcome, Implementation}
 use Rattle.piece.proofs.judge.Reads as piece·judge
@@ -51,23 +51,23 @@ abbrev refusal : {call : Call} → Outcome call → Refusal
 refusal o = record { number = o .number; place = o .place }
 
 -- Where a function answers an enum, or a record that stands for one, some case of it says what came out.
-pub record Judging (h z m n : ℤ) (o : Outcome (judge h z m n)) : Type 0 where
+pub record ByJudge (h z m n : ℤ) (o : Outcome (judge h z m n)) : Type 0 where
   pub verdict : Verdict
-  pub says : answerOf verdict ≡ answer (o .number) (o .place) (o .answer)
+  pub says : rulingOf verdict ≡ ruling (o .number) (o .place) (o .answer)
   pub promised : piece·judge.Post tt (h, (z, (m, (n, tt)))) verdict (h, (z, (m, (n, tt))))
 
-pub record Telling (t : Table) (x : ℤ) (o : Outcome (float-answer t x)) : Type 0 where
+pub record ByFloatAnswer (t : Table) (x : ℤ) (o : Outcome (float-answer t x)) : Type 0 where
   pub told : Answer.Answer
   pub says : toldOf told ≡ o .answer
   pub promised : drive·float_answer.Post three (lists t (x, tt)) (record { refusal = refusal o; answer = told }) (lists t (x, tt))
 
 -- what a record that has crossed to C tells
-pub data CrossedAs : Told → Told'.Told → Type 0 where
-  a-dwell : {r : Told'.Told} → r .kind ≡ 0 → CrossedAs (dwell (r .left)) r
-  a-move : {r : Told'.Told} → r .kind ≡ 1 → CrossedAs (move (r .left) (r .numerator) (r .denominator)) r
+pub data CrossedAs : Telling → Told → Type 0 where
+  a-dwell : {r : Told} → r .kind ≡ 0 → CrossedAs (dwell (r .left)) r
+  a-move : {r : Told} → r .kind ≡ 1 → CrossedAs (move (r .left) (r .numerator) (r .denominator)) r
 
-pub record TellingC (t : Table) (x : ℤ) (o : Outcome (float-answer t x)) : Type 0 where
-  pub told : Told'.Told
+pub record ByFloatAnswerC (t : Table) (x : ℤ) (o : Outcome (float-answer t x)) : Type 0 where
+  pub told : Told
   pub refused-by : told .refusal ≡ refusal o
   pub says : CrossedAs (o .answer) told
   pub promised : negwafir_float_answer.Post three (lists t (x, tt)) told (lists t (x, tt))
@@ -86,13 +86,13 @@ Asks (changed-points c t) = table·changed_points.Pre three (lists t (c, tt))
 Asks (point made c t) = change·point.Pre three (lists t (c, tt))
 
 abbrev pub May : (call : Call) → Outcome call → Type 0
-May (judge h z m n) o = Judging h z m n o
+May (judge h z m n) o = ByJudge h z m n o
 May (points t) o = table·points.Post three (lists t tt) (refusal o) (lists t tt)
 May (build t) o = slopes·build.Post three (lists t tt) (refusal o) (list (t .knots), (list (t .values), (list (o .lists), tt)))
 May (check t) o = table·check.Post three (lists t tt) (refusal o) (lists t tt)
 May (locate t x) o = position·locate.Post three (lists t (x, tt)) (record { refusal = refusal o; piece = o .answer }) (lists t (x, tt))
 May (evaluate t x) o = curve·evaluate.Post three (lists t (x, tt)) (record { refusal = refusal o; value = o .answer }) (lists t (x, tt))
-May (float-answer t x) o = Telling t x o
+May (float-answer t x) o = ByFloatAnswer t x o
 May (changed-points c t) o = table·changed_points.Post three (lists t (c, tt)) (refusal o) (lists t (c, tt))
 May (point made c t) o = change·point.Post three (lists t (c, tt)) (refusal o) (lists (o .lists) (c, tt))
 
@@ -119,7 +119,7 @@ MayC (build t) o = negwafir_build.Post three (lists t tt) (refusal o) (list (t .
 MayC (check t) o = negwafir_check.Post three (lists t tt) (refusal o) (lists t tt)
 MayC (locate t x) o = negwafir_locate.Post three (lists t (x, tt)) (record { refusal = refusal o; piece = o .answer }) (lists t (x, tt))
 MayC (evaluate t x) o = negwafir_evaluate.Post three (lists t (x, tt)) (record { refusal = refusal o; value = o .answer }) (lists t (x, tt))
-MayC (float-answer t x) o = TellingC t x o
+MayC (float-answer t x) o = ByFloatAnswerC t x o
 MayC (changed-points c t) o = negwafir_changed_points.Post three (lists t (c, tt)) (refusal o) (lists t (c, tt))
 MayC (point made c t) o = negwafir_change_point.Post three (lists t (c, tt)) (refusal o) (lists (o .lists) (c, tt))
 

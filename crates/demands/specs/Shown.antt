@@ -19,7 +19,7 @@ use Rattle.rules.specs.Known.{0<-width}
 use Rattle.rules.specs.Refusals.{Given}
 use Rattle.rules.specs.Order.{stopped}
 use Rattle.table.specs.Table.{Table, entry, step, Holds, buildOrder, checkOrder}
-use Rattle.table.specs.Accepted.{Points, Accepted}
+use Rattle.table.specs.Accepted.{PointsWithin, Accepted}
 use Rattle.slopes.specs.Slopes.{innerAt, endAt, builtSlope}
 use Rattle.slopes.specs.Cases.{first-slope, inner-slope, last-slope}
 use Rattle.slopes.specs.Figures.{ends-of-32-bits-are-refused}
@@ -49,7 +49,7 @@ module _ (v w m n : ℤ) where
 
 -- ---- the slope that a build gives a point keeps its rule
 
-pub right-slope : {ks vs : List ℤ} → Points ks vs → (i : ℕ) → RightSlope ks vs i (builtSlope ks vs i)
+pub right-slope : {ks vs : List ℤ} → PointsWithin ks vs → (i : ℕ) → RightSlope ks vs i (builtSlope ks vs i)
 right-slope {ks} {vs} p i = record { first = first; inner = inner; last = last }
   where
     first : i ≡ 0 → EndRule (step ks 0) (step vs 0) (builtSlope ks vs i)

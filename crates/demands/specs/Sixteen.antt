@@ -5,12 +5,12 @@ use mathlib.Core.List.{List, [], _∷_}
 use lib.IntN.{ℤ, pos, negsuc}
 use lib.ListN.{length}
 use Rattle.table.specs.Table.{table}
-use Rattle.piece.specs.Promise.{Word, rising, falling, flat, bends}
+use Rattle.piece.specs.Promise.{Finding, rising, falling, flat, bends}
 use Rattle.demands.specs.Demands.{judge, build, evaluate, Outcome, Implementation}
 
 pub data Case : Type 0 where
   -- a piece h, z, m, n and its verdict
-  piece : (h z m n : ℤ) → Word → Case
+  piece : (h z m n : ℤ) → Finding → Case
   -- points and the slopes that they have
   slopes : (knots values slopes : List ℤ) → Case
   -- points, a position and the value there

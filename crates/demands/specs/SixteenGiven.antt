@@ -14,10 +14,10 @@ use Rattle.rules.specs.Limits.{CountWithin, WidthWithin, RiseWithin}
 use Rattle.rules.specs.Refusals.{answered}
 use Rattle.rules.specs.Order.{went-on}
 use Rattle.table.specs.Table.{table}
-use Rattle.table.specs.Accepted.{Points, points-accepted}
+use Rattle.table.specs.Accepted.{PointsWithin, points-accepted}
 use Rattle.table.specs.Tested.{points-by-test}
-use Rattle.piece.specs.Promise.{Word, bends, Answer, answer, leaning, Judged, monotone, bent}
-use Rattle.piece.specs.Determined.{one-answer}
+use Rattle.piece.specs.Promise.{Finding, bends, Ruling, ruling, leaning, Judged, monotone, bent}
+use Rattle.piece.specs.Determined.{one-ruling}
 use Rattle.slopes.specs.Slopes.{builtSlopes, Built}
 use Rattle.slopes.specs.Determined.{one-build}
 use Rattle.slopes.specs.EveryPiece.{a-built-table-passes-the-table-check}
@@ -36,14 +36,14 @@ pub within : {l x h : ℤ} → T (leZ l x) → T (leZ x h) → Between l x h
 within s t = record { low = leZ-yes s; high = leZ-yes t }
 
 module _ {h z m n : ℤ} where
-  rises : pos 0 <ℤ z → WidthWithin h → RiseWithin z → Short (unit *ℤ z) (m *ℤ h) (n *ℤ h) → Judged h z m n (answer 0 0 (leaning z))
+  rises : pos 0 <ℤ z → WidthWithin h → RiseWithin z → Short (unit *ℤ z) (m *ℤ h) (n *ℤ h) → Judged h z m n (ruling 0 0 (leaning z))
   rises p w r s = monotone w r (monotone-rising p (short-accepts s))
 
-  falls : z <ℤ pos 0 → WidthWithin h → RiseWithin z → Short (negℤ (unit *ℤ z)) (negℤ (m *ℤ h)) (negℤ (n *ℤ h)) → Judged h z m n (answer 0 0 (leaning z))
+  falls : z <ℤ pos 0 → WidthWithin h → RiseWithin z → Short (negℤ (unit *ℤ z)) (negℤ (m *ℤ h)) (negℤ (n *ℤ h)) → Judged h z m n (ruling 0 0 (leaning z))
   falls p w r s = monotone w r (monotone-falling p (short-accepts s))
 
   -- at the fraction k/q
-  against : pos 0 <ℤ z → WidthWithin h → RiseWithin z → (k q : ℕ) → 1 ≤ q → k ≤ q → (pos 0 ≤ℤ slopeAt (unit *ℤ z) (m *ℤ h) (n *ℤ h) (pos k) (pos q) → ⊥) → Judged h z m n (answer 0 0 bends)
+  against : pos 0 <ℤ z → WidthWithin h → RiseWithin z → (k q : ℕ) → 1 ≤ q → k ≤ q → (pos 0 ≤ℤ slopeAt (unit *ℤ z) (m *ℤ h) (n *ℤ h) (pos k) (pos q) → ⊥) → Judged h z m n (ruling 0 0 bends)
   against p w r k q q₁ k₁ f = bent w r (λ o. f (o .rising p .at k q q₁ k₁))
 
 one-is-not-none : pos 1 ≡ pos 0 → ⊥
@@ -54,7 +54,7 @@ one-is-not-none e = absurd (subst (λ (x : ℤ). T (leZ (pos 1) x)) e tt)
 pub count : {n : ℕ} → T (leb 2 n) → T (leb n 1024) → CountWithin n
 count s t = record { low = lit≤ s; high = lit≤ t }
 
-pub has-slopes : {knots values these before : List ℤ} → Points knots values → these ≡ builtSlopes knots values → length before ≡ length knots → Built knots values before these 0 0
+pub has-slopes : {knots values these before : List ℤ} → PointsWithin knots values → these ≡ builtSlopes knots values → length before ≡ length knots → Built knots values before these 0 0
 has-slopes p e l = record { refusal = points-accepted p l; slopes = e }
 
 pub has-value : {knots values before after : List ℤ} {x v : ℤ} → WithinKnots knots x → Belongs knots x 0 → v ≡ valueOn (table knots values (builtSlopes knots values)) 0 x → Built knots values before after 0 0 → Evaluated (table knots values after) x 0 0 v
@@ -66,23 +66,23 @@ has-value {knots} {values} {x = x} w p e b =
 
 -- ---- so what keeps the promises gives them
 
-abbrev numberOf : Answer → ℕ
-numberOf (answer number place word) = number
+abbrev numberOf : Ruling → ℕ
+numberOf (ruling number place finding) = number
 
-abbrev placeOf : Answer → ℕ
-placeOf (answer number place word) = place
+abbrev placeOf : Ruling → ℕ
+placeOf (ruling number place finding) = place
 
-abbrev wordOf : Answer → Word
-wordOf (answer number place word) = word
+abbrev findingOf : Ruling → Finding
+findingOf (ruling number place finding) = finding
 
 module _ {I : Implementation} (k : Keeps I) where
-  a-piece : {h z m n : ℤ} {word : Word} → Judged h z m n (answer 0 0 word) → Gives I (piece h z m n word)
-  a-piece {h} {z} {m} {n} j o p = let e = one-answer (k .promised (judge h z m n) o p) j in (ap numberOf e, ap placeOf e, ap wordOf e)
+  a-piece : {h z m n : ℤ} {finding : Finding} → Judged h z m n (ruling 0 0 finding) → Gives I (piece h z m n finding)
+  a-piece {h} {z} {m} {n} j o p = let e = one-ruling (k .promised (judge h z m n) o p) j in (ap numberOf e, ap placeOf e, ap findingOf e)
 
-  some-slopes : {knots values these : List ℤ} → Points knots values → these ≡ builtSlopes knots values → Gives I (slopes knots values these)
+  some-slopes : {knots values these : List ℤ} → PointsWithin knots values → these ≡ builtSlopes knots values → Gives I (slopes knots values these)
   some-slopes {knots} {values} p e before l o q = one-build (k .promised (build (table knots values before)) o q) (has-slopes p e l)
 
-  a-value : {knots values : List ℤ} {x v : ℤ} → Points knots values → WithinKnots knots x → Belongs knots x 0 → v ≡ valueOn (table knots values (builtSlopes knots values)) 0 x → Gives I (value knots values x v)
+  a-value : {knots values : List ℤ} {x v : ℤ} → PointsWithin knots values → WithinKnots knots x → Belongs knots x 0 → v ≡ valueOn (table knots values (builtSlopes knots values)) 0 x → Gives I (value knots values x v)
   a-value {knots} {values} {x} p w b e before l o q r s =
       let built = one-build (k .promised (build (table knots values before)) o q) (has-slopes p refl l) in
       one-evaluation (k .promised (evaluate (table knots values (o .lists)) x) r s) (has-value {before = before} w b e (has-slopes p (built .2) l))

@@ -25,7 +25,7 @@ use Rattle.drive.specs.declared.Driven.{Driven}
 use Rattle.drive.specs.Drive.{toldOf, Driving}
 use Rattle.drive.specs.Determined.{one-driving, one-case}
 use Rattle.change.specs.Determined.{one-change}
-use Rattle.exports.specs.Determined.{one-judgement, one-telling, one-span, one-read, one-read32}
+use Rattle.exports.specs.Determined.{one-judgement, one-told, one-span, one-read, one-read32}
 use Rattle.integers.proofs.difference.Reads as integers·difference
 use Rattle.integers.proofs.between.Reads as integers·between
 use Rattle.integers.proofs.floor_div.Reads as integers·floor_div
@@ -327,7 +327,7 @@ pub exports·negwafir_evaluate-tied : Tied exports·negwafir_evaluate.Pre export
 exports·negwafir_evaluate-tied = (λ κs a. tt, λ κs a r s x y p q. let e = one-evaluation p q in λ i. record { refusal = record { number = e .0 i; place = e .1 i }; value = e .2 i })
 
 pub exports·negwafir_float_answer-tied : Tied exports·negwafir_float_answer.Pre exports·negwafir_float_answer.Post result
-exports·negwafir_float_answer-tied = (λ κs a. tt, λ κs a r s x y p q. one-telling p q)
+exports·negwafir_float_answer-tied = (λ κs a. tt, λ κs a r s x y p q. one-told p q)
 
 pub exports·negwafir_change_point-tied : Tied exports·negwafir_change_point.Pre exports·negwafir_change_point.Post with-three
 exports·negwafir_change_point-tied = (λ κs a. tt, λ κs a r s x y p q. let e = one-change p q in λ i. (record { number = e .0 i; place = e .1 i }, e .2 i))

@@ -11,7 +11,7 @@ use Rattle.integers.specs.Linear.{lin, says}
 use Rattle.rules.specs.Refusals.{Given}
 use Rattle.table.specs.declared.changed.Change.{Change}
 use Rattle.table.specs.Table.{Table, table, Holds, checkOrder}
-use Rattle.table.specs.Accepted.{Points}
+use Rattle.table.specs.Accepted.{PointsWithin}
 use Rattle.table.specs.Tested.{points-by-test}
 use Rattle.slopes.specs.Slopes.{Built}
 use Rattle.slopes.specs.EveryPiece.{a-built-table-passes-the-table-check}
@@ -149,7 +149,7 @@ module _ {I : Implementation} (d : Demand1 I) (call : Call) (o : Outcome call) (
 
 -- ---- tables
 
--- "Points (0,0), (3,−10) have slopes −853, −853", "(0,0), (1,1), (2,4) have slopes 256, 384, 768", and "(0,0), (1,1), (2,4), (3,7) have slopes 256, 384, 768, 768"
+-- "PointsWithin (0,0), (3,−10) have slopes −853, −853", "(0,0), (1,1), (2,4) have slopes 256, 384, 768", and "(0,0), (1,1), (2,4), (3,7) have slopes 256, 384, 768, 768"
 abbrev pub two : Table
 two = table (pos 0 ∷ pos 3 ∷ []) (pos 0 ∷ negsuc 9 ∷ []) (negsuc 852 ∷ negsuc 852 ∷ [])
 
@@ -167,13 +167,13 @@ unbuilt t = table (t .knots) (t .values) (zeros (t .knots))
     zeros [] = []
     zeros (x ∷ xs) = pos 0 ∷ zeros xs
 
-pub two-within : Points (two .knots) (two .values)
+pub two-within : PointsWithin (two .knots) (two .values)
 two-within = points-by-test _ _ refl (count tt tt) tt
 
-pub three-within : Points (three .knots) (three .values)
+pub three-within : PointsWithin (three .knots) (three .values)
 three-within = points-by-test _ _ refl (count tt tt) tt
 
-pub four-within : Points (four .knots) (four .values)
+pub four-within : PointsWithin (four .knots) (four .values)
 four-within = points-by-test _ _ refl (count tt tt) tt
 
 -- they are what a build leaves, over any list of as many slopes, and they pass the table check

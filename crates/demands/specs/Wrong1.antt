@@ -18,7 +18,7 @@ use Rattle.table.specs.declared.changed.Change.{Change}
 use Rattle.table.specs.Table.{Table, table, entry, step, SameLengths, Holds, width-outside, rise-outside, not-monotone, buildOrder, checkOrder}
 use Rattle.table.specs.Accepted.{points-accepted, same-length-passes, count-passes, accepted-table}
 use Rattle.table.specs.Tested.{points-by-test}
-use Rattle.table.specs.Changed.{changedBy, HoldsAfter, of-points, no-such-point, changeOrder}
+use Rattle.table.specs.WouldBe.{changedBy, HoldsAfter, of-points, no-such-point, changeOrder}
 use Rattle.table.specs.AfterChange.{as-changed}
 use Rattle.piece.specs.Promise.{none}
 use Rattle.position.specs.Position.{Belongs, inside, HoldsAt, of-table, position-outside, evaluationOrder}

@@ -7,7 +7,7 @@ use lib.Signed.{leZ-yes, ltZ-yes}
 use Rattle.table.specs.Accepted.{points-accepted}
 use Rattle.table.specs.Table.{entry}
 use Rattle.rules.specs.Refusals.{answered}
-use Rattle.piece.specs.Promise.{Word, rising, falling, flat, bends}
+use Rattle.piece.specs.Promise.{Finding, rising, falling, flat, bends}
 use Rattle.demands.specs.Demands.{Implementation}
 use Rattle.demands.specs.Sixteen.{Case, Gives, All, none, _&_, TheSixteen}
 use Rattle.demands.specs.Wrong.{outcome, answering, another-judge, not-equal, two, two-built, three-within}
@@ -25,12 +25,12 @@ case (g & more) zero = g
 case (g & more) (suc i) = case more i
 
 -- a verdict as a number
-abbrev numbered : Word → ℤ
+abbrev numbered : Finding → ℤ
 numbered rising = pos 1
 numbered falling = pos 2
 numbered flat = pos 3
 numbered bends = pos 4
-numbered Word.none = pos 0
+numbered Finding.none = pos 0
 
 -- the second: 1, 1, 768, 768 rises
 pub not-by-the-papers-less : TheSixteen (answering (another-judge ByThePaper)) → ⊥

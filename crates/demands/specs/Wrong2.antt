@@ -20,7 +20,7 @@ use Rattle.cubic.specs.Test.{line, oval, short-accepts}
 use Rattle.rules.specs.Refusals.{Given, afterwards, Answered, answered}
 use Rattle.rules.specs.Known.{0<-width}
 use Rattle.table.specs.Table.{Table, table, entry, step, Holds, buildOrder}
-use Rattle.table.specs.Accepted.{Points, points-accepted, accepted-table}
+use Rattle.table.specs.Accepted.{PointsWithin, points-accepted, accepted-table}
 use Rattle.table.specs.Tested.{points-by-test}
 use Rattle.piece.specs.Promise.{rising, falling, flat, bends}
 use Rattle.slopes.specs.Slopes.{builtSlope, builtSlopes, Built}
@@ -138,7 +138,7 @@ abbrev pub but-at : ℕ → (Table → ℤ) → Table → List ℤ
 but-at i slope t = set (builtSlopes (t .knots) (t .values)) i (slope t)
 
 -- what such a builder leaves of points that are within the limits is to have the right slopes
-left : {slopes : Table → List ℤ} → Demand2 (answering (leaving slopes)) → (t : Table) → Points (t .knots) (t .values) → length (t .slopes) ≡ length (t .knots) → RightSlopes (t .knots) (t .values) (slopes t)
+left : {slopes : Table → List ℤ} → Demand2 (answering (leaving slopes)) → (t : Table) → PointsWithin (t .knots) (t .values) → length (t .slopes) ≡ length (t .knots) → RightSlopes (t .knots) (t .values) (slopes t)
 left {slopes} d t p l = d .slopes-you-build {t = t} {o = outcome 0 0 tt (slopes t)} (points-accepted p l, refl) refl
 
 abbrev at-rest : List ℤ
@@ -195,7 +195,7 @@ rising-by more =
     × Answered (λ v. (i : ℕ) × (Belongs (t .knots) x i × (v ≡ entry (t .values) i +ℤ more (step (t .knots) i) (step (t .values) i) (entry (t .slopes) i) (entry (t .slopes) (i + 1)) (x -ℤ entry (t .knots) i)))) (pos 0) (o .number) (o .answer))
 
 -- one number only is the exact cubic, rounded down
-one-exact : {t : Table} {x v w : ℤ} → Points (t .knots) (t .values) → ExactRoundedDown t x v → ExactRoundedDown t x w → v ≡ w
+one-exact : {t : Table} {x v w : ℤ} → PointsWithin (t .knots) (t .values) → ExactRoundedDown t x v → ExactRoundedDown t x w → v ≡ w
 one-exact {t} {x} {v} {w} p e f =
     same v w (entry (t .values) (f .piece)) (floor-unique (below (0<-width (p .widths (f .piece) (within-list (f .belongs)))))
     (subst (λ (i : ℕ). RoundedDown (step (t .knots) i) (step (t .values) i) (entry (t .slopes) i) (entry (t .slopes) (i + 1)) (x -ℤ entry (t .knots) i) (v -ℤ entry (t .values) i)) (one-piece p (e .belongs) (f .belongs)) (e .rounded-down)) (f .rounded-down))
@@ -207,7 +207,7 @@ one-exact {t} {x} {v} {w} p e f =
     below {h} h₀ = let u : pos 0 <ℤ unit = ltZ-yes tt in search positives
 
 -- so such a program is to answer what ours does, in the first piece of a built table
-the-same : (more : (h z m n t : ℤ) → ℤ) → Demand2 (answering (rising-by more)) → {ks vs ss : List ℤ} {x v : ℤ} → Points ks vs → Built ks vs ss ss 0 0 → Belongs ks x 0 → Evaluated (table ks vs ss) x 0 0 v
+the-same : (more : (h z m n t : ℤ) → ℤ) → Demand2 (answering (rising-by more)) → {ks vs ss : List ℤ} {x v : ℤ} → PointsWithin ks vs → Built ks vs ss ss 0 0 → Belongs ks x 0 → Evaluated (table ks vs ss) x 0 0 v
     → entry vs 0 +ℤ more (step ks 0) (step vs 0) (entry ss 0) (entry ss 1) (x -ℤ entry ks 0) ≡ v
 the-same more d {ks} {vs} {ss} {x} p b i e =
     one-exact p (d .the-position-you-answer {t = table ks vs ss} {x = x} {o = outcome 0 0 (entry vs 0 +ℤ more (step ks 0) (step vs 0) (entry ss 0) (entry ss 1) (x -ℤ entry ks 0)) tt} (e .refusal, answered (0, (i, refl))) refl) (its-value-is-exact refl e)
@@ -250,7 +250,7 @@ a-mirrored-cubic d = not-equal tt (sym (the-same mirrored d steep-within steep-b
     ss : List ℤ
     ss = pos 256 ∷ pos 460 ∷ pos 2304 ∷ []
 
-    steep-within : Points ks vs
+    steep-within : PointsWithin ks vs
     steep-within = points-by-test _ _ refl (count tt tt) tt
 
     steep-built : Built ks vs ss ss 0 0

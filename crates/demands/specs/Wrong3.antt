@@ -10,9 +10,9 @@ use lib.Signed.{ltZ-yes}
 use lib.ListN.{length, set}
 use Rattle.table.specs.declared.changed.Change.{Change}
 use Rattle.table.specs.Table.{Table, table, entry}
-use Rattle.table.specs.Accepted.{Points, points-accepted}
+use Rattle.table.specs.Accepted.{PointsWithin, points-accepted}
 use Rattle.table.specs.Tested.{points-by-test}
-use Rattle.table.specs.Changed.{changedBy}
+use Rattle.table.specs.WouldBe.{changedBy}
 use Rattle.table.specs.AfterChange.{as-changed}
 use Rattle.slopes.specs.Slopes.{builtSlopes, Built}
 use Rattle.change.specs.Change.{Changed}
@@ -41,7 +41,7 @@ lowering = record { point = 0; knot = pos 0; value = negsuc 1 }
 abbrev pub lowered : Table
 lowered = table (four .knots) (negsuc 1 ∷ pos 1 ∷ pos 4 ∷ pos 7 ∷ []) (pos 768 ∷ pos 768 ∷ pos 768 ∷ pos 768 ∷ [])
 
-lowered-within : Points (lowered .knots) (lowered .values)
+lowered-within : PointsWithin (lowered .knots) (lowered .values)
 lowered-within = points-by-test _ _ refl (count tt tt) tt
 
 pub is-lowered : Changed lowering four lowered 0 0

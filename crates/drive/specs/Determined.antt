@@ -7,27 +7,27 @@ use Rattle.rules.specs.Order.{one-given, one-answered}
 use Rattle.table.specs.Table.{Table}
 use Rattle.table.specs.Accepted.{Accepted}
 use Rattle.position.specs.Pieces.{one-piece}
-use Rattle.drive.specs.Drive.{Told, dwell, move, toldOf, ToldIn, dwells, moves, ToldOn, ToldAt, Driving}
+use Rattle.drive.specs.Drive.{Telling, dwell, move, toldOf, ToldIn, dwells, moves, ToldOn, ToldAt, Driving}
 use Rattle.drive.specs.Refused.{accepted-for}
 use Rattle.drive.specs.declared.Answer.{Answer}
 use Rattle.drive.specs.declared.Answer.the-variants.{Dwell, Move}
 
-one-told : {left h z m n t : ℤ} {a b : Told} → ToldIn left h z m n t a → ToldIn left h z m n t b → a ≡ b
-one-told (dwells e x) (dwells f y) = ap dwell (one-float x y)
-one-told (dwells e x) (moves g p q r) = absurd (g e)
-one-told (moves g p q r) (dwells e x) = absurd (g e)
-one-told (moves g p q r) (moves h u v w) = λ i. move (one-float p u i) (one-float q v i) (one-float r w i)
+one-told-in : {left h z m n t : ℤ} {a b : Telling} → ToldIn left h z m n t a → ToldIn left h z m n t b → a ≡ b
+one-told-in (dwells e x) (dwells f y) = ap dwell (one-float x y)
+one-told-in (dwells e x) (moves g p q r) = absurd (g e)
+one-told-in (moves g p q r) (dwells e x) = absurd (g e)
+one-told-in (moves g p q r) (moves h u v w) = λ i. move (one-float p u i) (one-float q v i) (one-float r w i)
 
-one-answer : {t : Table} {x : ℤ} {a b : Told} → Accepted t → ToldAt t x a → ToldAt t x b → a ≡ b
-one-answer {t} {x} {a} {b} c f g = one-told (subst (λ (i : ℕ). ToldOn t i x a) (one-piece (c .limits) (f .belongs) (g .belongs)) (f .is)) (g .is)
+one-told-at : {t : Table} {x : ℤ} {a b : Telling} → Accepted t → ToldAt t x a → ToldAt t x b → a ≡ b
+one-told-at {t} {x} {a} {b} c f g = one-told-in (subst (λ (i : ℕ). ToldOn t i x a) (one-piece (c .limits) (f .belongs) (g .belongs)) (f .is)) (g .is)
 
-pub one-driving : {t : Table} {x : ℤ} {a b : Told} {m n p q : ℕ} → Driving t x m p a → Driving t x n q b → (m ≡ n) × (p ≡ q) × (a ≡ b)
+pub one-driving : {t : Table} {x : ℤ} {a b : Telling} {m n p q : ℕ} → Driving t x m p a → Driving t x n q b → (m ≡ n) × (p ≡ q) × (a ≡ b)
 one-driving f g =
     let e = one-given (f .refusal) (g .refusal) in
-    (e .0, e .1, one-answered (e .0) (λ z. one-answer (accepted-for z (g .refusal))) (f .answer) (g .answer))
+    (e .0, e .1, one-answered (e .0) (λ z. one-told-at (accepted-for z (g .refusal))) (f .answer) (g .answer))
 
 -- what is told, back as a case of the enum
-abbrev caseOf : Told → Answer
+abbrev caseOf : Telling → Answer
 caseOf (dwell level) = Dwell level
 caseOf (move from above below) = Move (record { left = from; numerator = above; denominator = below })
 

@@ -18,7 +18,7 @@ use Rattle.cubic.specs.Small.{monotone-small}
 use Rattle.cubic.specs.Horner.{HornerWithin, horner-within}
 use Rattle.rules.specs.Limits.{WidthWithin, TooLarge}
 use Rattle.piece.specs.Cubic.{Coefficients}
-use Rattle.position.specs.Spot.{Inside}
+use Rattle.position.specs.Spot.{InPiece}
 
 -- |z|·h³ is the size of z·h³
 size-is : (h z : ℤ) → WidthWithin h → magnitude (z *ℤ (h *ℤ h *ℤ h)) ≡ magnitude z *ℤ (h *ℤ h *ℤ h)
@@ -42,7 +42,7 @@ cubed : (h z : ℤ) → WidthWithin h → (TooLarge h z → ⊥) → natAbs z * 
 cubed (pos k) z w f = ⊎-elim ≤-pos (λ l. absurd (f (record { above = l }))) (≤ℤ-or-<ℤ (magnitude z *ℤ (pos k *ℤ pos k *ℤ pos k)) (pos (2 ^ 40)))
 cubed (negsuc k) z w f = absurd (w .low .le)
 
-pub steps-exact : {h z m n t first second third : ℤ} → Inside h z m n t → (TooLarge h z → ⊥) → Coefficients unit h z m n first second third → HornerWithin (2 ^ 53) first second third t h
+pub steps-exact : {h z m n t first second third : ℤ} → InPiece h z m n t → (TooLarge h z → ⊥) → Coefficients unit h z m n first second third → HornerWithin (2 ^ 53) first second third t h
 steps-exact {h} {z} {m} {n} {t} o f c =
     let w = width-size h (o .width) in
     let size = cubed h z (o .width) f in

@@ -9,20 +9,20 @@ use Rattle.cubic.specs.Value.{rounded, risen}
 use Rattle.table.specs.Table.{Table}
 use Rattle.table.specs.Accepted.{Accepted}
 use Rattle.position.specs.Pieces.{one-piece}
-use Rattle.position.specs.Spot.{Inside, inside-accepted}
+use Rattle.position.specs.Spot.{InPiece, inside-accepted}
 use Rattle.curve.specs.Curve.{ValueAt, valueOn}
 use Rattle.curve.specs.OnPiece.{level-risen}
-use Rattle.drive.specs.Drive.{Told, dwell, move, ToldIn, dwells, moves, ToldAt}
+use Rattle.drive.specs.Drive.{Telling, dwell, move, ToldIn, dwells, moves, ToldAt}
 
 -- v is what a drive makes of it: the level, or the left value plus the quotient, rounded as a value is
-pub data Makes (v : ℤ) : Told → Type 0 where
+pub data Makes (v : ℤ) : Telling → Type 0 where
   level-is : {level : Float} → Exactly binary64 v level → Makes v (dwell level)
   quotient-is : {from above below : Float} {left n d : ℤ} → Exactly binary64 left from → Exactly binary64 n above → Exactly binary64 d below → v ≡ left +ℤ rounded n d → Makes v (move from above below)
 
-makes : {left h z m n t : ℤ} {a : Told} → Inside h z m n t → ToldIn left h z m n t a → Makes (left +ℤ risen unit h z m n t) a
+makes : {left h z m n t : ℤ} {a : Telling} → InPiece h z m n t → ToldIn left h z m n t a → Makes (left +ℤ risen unit h z m n t) a
 makes {left} o (dwells {x = level} e x) = level-is (subst (λ (v : ℤ). Exactly binary64 v level) (sym (ap (λ (w : ℤ). left +ℤ w) (level-risen o e) ∙ +ℤ-idr left)) x)
 makes o (moves f x y w) = quotient-is x y w refl
 
-pub what-the-drive-makes-of-its-answer-is-the-value : {t : Table} {x v : ℤ} {a : Told} → Accepted t → ToldAt t x a → ValueAt t x v → Makes v a
+pub what-the-drive-makes-of-its-answer-is-the-value : {t : Table} {x v : ℤ} {a : Telling} → Accepted t → ToldAt t x a → ValueAt t x v → Makes v a
 what-the-drive-makes-of-its-answer-is-the-value {t} {x} {v} {a} c f g =
     subst (λ (w : ℤ). Makes w a) (sym (g .is ∙ ap (λ (i : ℕ). valueOn t i x) (one-piece (c .limits) (g .belongs) (f .belongs)))) (makes (inside-accepted c (f .belongs)) (f .is))

@@ -7,7 +7,7 @@ ghost use Rattle.cubic.specs.Piece.{unit};
 ghost use Rattle.cubic.specs.Value.{numerator, denominator};
 ghost use Rattle.rules.specs.Limits.{WidthWithin, RiseWithin, TooLarge};
 ghost use Rattle.table.specs.Table.{table};
-ghost use Rattle.position.specs.Spot.{Inside};
+ghost use Rattle.position.specs.Spot.{InPiece};
 ghost use Rattle.drive.specs.Drive.{toldOf, resting, ToldIn, Driving};
 
 mod horner;
@@ -45,7 +45,7 @@ fn too_large(h: i64, z: i64) -> bool
 
 // A move in a piece that is not too large: the left value, and what the curve has risen by since, over its denominator.
 fn moving(left: i32, h: i64, z: i64, m: i32, n: i32, t: i64) -> Floats
-    requires { ⌜ Inside h z m n t ⌝ }
+    requires { ⌜ InPiece h z m n t ⌝ }
     requires { ⌜ (TooLarge h z → ⊥) ⌝ }
     ensures { λ r. ⌜ Exactly binary64 left (r .left) ⌝ }
     ensures { λ r. ⌜ Exactly binary64 (numerator unit h z m n t) (r .numerator) ⌝ }
@@ -64,7 +64,7 @@ fn moving(left: i32, h: i64, z: i64, m: i32, n: i32, t: i64) -> Floats
 
 // What the drive is told in a piece that is not too large.
 fn told(s: Spot) -> Answer
-    requires { ⌜ Inside (s .h) (s .z) (s .m) (s .n) (s .t) ⌝ }
+    requires { ⌜ InPiece (s .h) (s .z) (s .m) (s .n) (s .t) ⌝ }
     requires { ⌜ (TooLarge (s .h) (s .z) → ⊥) ⌝ }
     ensures { λ r. ⌜ ToldIn (s .left) (s .h) (s .z) (s .m) (s .n) (s .t) (toldOf r) ⌝ }
 {

@@ -14,7 +14,7 @@ use Rattle.decimals.specs.declared.reading.Number
 use Rattle.decimals.specs.declared.reading.Number32
 
 -- The number of a verdict: 0 none, 1 rising, 2 falling, 3 flat, 4 bends.
-abbrev pub verdictNumber : piece.Word → ℕ
+abbrev pub verdictNumber : piece.Finding → ℕ
 verdictNumber piece.none = 0
 verdictNumber piece.rising = 1
 verdictNumber piece.falling = 2
@@ -23,7 +23,7 @@ verdictNumber piece.bends = 4
 
 -- What is answered of one piece is right by the exact rules, and its verdict stands there by its number.
 pub data JudgedAs (h z m n : ℤ) (number place : ℕ) : ℕ → Type 0 where
-  judged : {w : piece.Word} → piece.Judged h z m n (piece.answer number place w) → JudgedAs h z m n number place (verdictNumber w)
+  judged : {w : piece.Finding} → piece.Judged h z m n (piece.ruling number place w) → JudgedAs h z m n number place (verdictNumber w)
 
 -- What the drive is told: kind 0, a dwell, with its level on the left, +0 above and 1 below, so that left + numerator / denominator is the level; or kind 1,
 -- a move, with its three floats.

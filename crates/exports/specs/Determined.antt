@@ -5,8 +5,8 @@ use Prim.Native.Nat.{ℕ}
 use lib.IntN.{ℤ}
 use lib.Ieee.{Float}
 use Rattle.floats.specs.Exactly.{one-float}
-use Rattle.piece.specs.Promise.{Answer, answer}
-use Rattle.piece.specs.Determined.{one-answer}
+use Rattle.piece.specs.Promise.{Ruling, ruling}
+use Rattle.piece.specs.Determined.{one-ruling}
 use Rattle.table.specs.Table.{Table}
 use Rattle.drive.specs.Determined.{one-driving}
 use Rattle.words.specs.declared.split.Word.{Word}
@@ -24,24 +24,24 @@ use Rattle.exports.specs.Cases.{verdictNumber, JudgedAs, judged, DrivenA
 abbrev judgement : ℕ → ℕ → ℕ → Judgement
 judgement number place verdict = record { refusal = record { number = number; place = place }; verdict = verdict }
 
--- the record that an answer of the exact rules is
-abbrev numbered : Answer → Judgement
-numbered (answer number place w) = judgement number place (verdictNumber w)
+-- the record that a ruling of the exact rules is
+abbrev numbered : Ruling → Judgement
+numbered (ruling number place w) = judgement number place (verdictNumber w)
 
 pub one-judgement : {h z m n : ℤ} {a b p q u v : ℕ} → JudgedAs h z m n a p u → JudgedAs h z m n b q v → judgement a p u ≡ judgement b q v
-one-judgement (judged f) (judged g) = ap numbered (one-answer f g)
+one-judgement (judged f) (judged g) = ap numbered (one-ruling f g)
 
 -- ---- what the drive is told: two cases that differ cannot both be
 
-abbrev telling : ℕ → ℕ → ℕ → Float → Float → Float → Told
-telling number place kind left numerator denominator =
+abbrev told : ℕ → ℕ → ℕ → Float → Float → Float → Told
+told number place kind left numerator denominator =
     record { refusal = record { number = number; place = place }; kind = kind; left = left; numerator = numerator; denominator = denominator }
 
-pub one-telling : {t : Table} {x : ℤ} {a b p q k l : ℕ} {f g h u v w : Float} → DrivenAs t x a p k f g h → DrivenAs t x b q l u v w → telling a p k f g h ≡ telling b q l u v w
-one-telling (dwells d n m) (dwells e o r) = let s = one-driving d e in cc (s .0, s .1, s .2, one-float n o, one-float m r)
-one-telling (dwells d n m) (moves e) = cc (one-driving d e .2)
-one-telling (moves d) (dwells e o r) = cc (one-driving d e .2)
-one-telling (moves d) (moves e) = let s = one-driving d e in cc (s .0, s .1, s .2)
+pub one-told : {t : Table} {x : ℤ} {a b p q k l : ℕ} {f g h u v w : Float} → DrivenAs t x a p k f g h → DrivenAs t x b q l u v w → told a p k f g h ≡ told b q l u v w
+one-told (dwells d n m) (dwells e o r) = let s = one-driving d e in cc (s .0, s .1, s .2, one-float n o, one-float m r)
+one-told (dwells d n m) (moves e) = cc (one-driving d e .2)
+one-told (moves d) (dwells e o r) = cc (one-driving d e .2)
+one-told (moves d) (moves e) = let s = one-driving d e in cc (s .0, s .1, s .2)
 
 -- ---- a word, and a number: each case has its one record
 

@@ -1,7 +1,7 @@
 // A table: why it is refused, its slopes, and a change of one point.
 ghost use Rattle.rules.specs.Refusals.{Given};
 ghost use Rattle.table.specs.Table.{table, Holds, buildOrder, checkOrder};
-ghost use Rattle.table.specs.Changed.{HoldsAfter, changeOrder};
+ghost use Rattle.table.specs.WouldBe.{HoldsAfter, changeOrder};
 ghost use Rattle.slopes.specs.Slopes.{Built};
 ghost use Rattle.change.specs.Change.{Changed};
 use rules::Refusal;

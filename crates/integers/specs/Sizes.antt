@@ -30,9 +30,9 @@ pub data Listed (x : ℤ) : List Known → Type 0 where
   first : {M : ℕ} {h : Within M x} {Γ : List Known} → Listed x (known x M h ∷ Γ)
   later : {e : Known} {Γ : List Known} → Listed x Γ → Listed x (e ∷ Γ)
 
-pub data Held (w : Width) (x : ℤ) : List Known → Type 0 where
-  first-held : {h : SFits w x} {Γ : List Known} → Held w x (held w x h ∷ Γ)
-  later-held : {e : Known} {Γ : List Known} → Held w x Γ → Held w x (e ∷ Γ)
+pub data ListedHeld (w : Width) (x : ℤ) : List Known → Type 0 where
+  first-held : {h : SFits w x} {Γ : List Known} → ListedHeld w x (held w x h ∷ Γ)
+  later-held : {e : Known} {Γ : List Known} → ListedHeld w x Γ → ListedHeld w x (e ∷ Γ)
 
 pub data Code (Γ : List Known) : ℤ → Type 0 where
   number : (n : ℕ) → Code Γ (pos n)
@@ -43,7 +43,7 @@ pub data Code (Γ : List Known) : ℤ → Type 0 where
   minus : {x : ℤ} → Code Γ x → Code Γ (negℤ x)
   opposite : {x : ℤ} → Code Γ x → Code Γ (pos 0 -ℤ x)
   layer : (w : Width) {x : ℤ} → Code Γ x → Code Γ (toZ w (ofZ w x))
-  whole : (w : Width) {x : ℤ} → Held w x Γ → Code Γ (toZ w (ofZ w x))
+  whole : (w : Width) {x : ℤ} → ListedHeld w x Γ → Code Γ (toZ w (ofZ w x))
   listed : {x : ℤ} → Listed x Γ → Code Γ x
 
 pub ruleset code = (number, below, opposite, plus, product, quotient, minus, whole, layer, listed, first, later, first-held, later-held)
@@ -96,7 +96,7 @@ mag-natAbs : (x : ℤ) → mag x ≤ natAbs x
 mag-natAbs (pos n) = le-refl n
 mag-natAbs (negsuc n) = omega arith
 
-held-fits : {w : Width} {x : ℤ} {Γ : List Known} (v : Held w x Γ) → SFits w x
+held-fits : {w : Width} {x : ℤ} {Γ : List Known} (v : ListedHeld w x Γ) → SFits w x
 held-fits (first-held {h = h}) = h
 held-fits (later-held v) = held-fits v
 

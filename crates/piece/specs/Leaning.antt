@@ -7,7 +7,7 @@ use lib.IntN.{ℤ, pos, negsuc}
 use lib.Signed.{_<ℤ_}
 use Rattle.cubic.specs.Piece.{unit, Monotone}
 use Rattle.rules.specs.Limits.{WidthWithin, RiseWithin}
-use Rattle.piece.specs.Promise.{Word, rising, falling, flat, answer, leaning, Judged, monotone}
+use Rattle.piece.specs.Promise.{Finding, rising, falling, flat, ruling, leaning, Judged, monotone}
 
 up : {z : ℤ} → pos 0 <ℤ z → leaning z ≡ rising
 up {z = pos zero} h = absurd (h .lt)
@@ -23,11 +23,11 @@ level : {z : ℤ} → z ≡ pos 0 → leaning z ≡ flat
 level h = ap leaning h
 
 module _ {h z m n : ℤ} (w : WidthWithin h) (r : RiseWithin z) where
-  pub is-rising : pos 0 <ℤ z → Monotone unit h z m n → Judged h z m n (answer 0 0 rising)
-  is-rising p k = subst (λ (v : Word). Judged h z m n (answer 0 0 v)) (up p) (monotone w r k)
+  pub is-rising : pos 0 <ℤ z → Monotone unit h z m n → Judged h z m n (ruling 0 0 rising)
+  is-rising p k = subst (λ (v : Finding). Judged h z m n (ruling 0 0 v)) (up p) (monotone w r k)
 
-  pub is-falling : z <ℤ pos 0 → Monotone unit h z m n → Judged h z m n (answer 0 0 falling)
-  is-falling p k = subst (λ (v : Word). Judged h z m n (answer 0 0 v)) (down p) (monotone w r k)
+  pub is-falling : z <ℤ pos 0 → Monotone unit h z m n → Judged h z m n (ruling 0 0 falling)
+  is-falling p k = subst (λ (v : Finding). Judged h z m n (ruling 0 0 v)) (down p) (monotone w r k)
 
-  pub is-flat : z ≡ pos 0 → Monotone unit h z m n → Judged h z m n (answer 0 0 flat)
-  is-flat p k = subst (λ (v : Word). Judged h z m n (answer 0 0 v)) (level p) (monotone w r k)
+  pub is-flat : z ≡ pos 0 → Monotone unit h z m n → Judged h z m n (ruling 0 0 flat)
+  is-flat p k = subst (λ (v : Finding). Judged h z m n (ruling 0 0 v)) (level p) (monotone w r k)

@@ -1,9 +1,9 @@
 // The verdict on one piece: rising, falling, flat or bends, or the refusal of a piece outside the limits. And the cubic of a piece.
 ghost use Rattle.integers.specs.Promise.{Decided};
 ghost use Rattle.cubic.specs.Piece.{unit, NeverAgainst, Monotone};
-ghost use Rattle.cubic.specs.Slope.{Inside};
+ghost use Rattle.cubic.specs.Slope.{InEllipse};
 ghost use Rattle.rules.specs.Limits.{WidthWithin, RiseWithin};
-ghost use Rattle.piece.specs.Promise.{Judged, answerOf};
+ghost use Rattle.piece.specs.Promise.{Judged, rulingOf};
 ghost use Rattle.piece.specs.Sizes.{Moderate, Low};
 ghost use Rattle.piece.specs.Cubic.{Coefficients};
 use rules::Refusal;
@@ -27,7 +27,7 @@ pub struct Cubic {
 // Fritsch and Carlson's last test, from what a and b have over 3Z. The callers' sizes leave room for both products.
 fn in_ellipse(over: i64, a: i64, b: i64) -> bool
     requires { ⌜ Low over a b ⌝ }
-    ensures { λ r. ⌜ Decided (Inside over a b) r ⌝ }
+    ensures { λ r. ⌜ Decided (InEllipse over a b) r ⌝ }
 {
     over * over <= a * b
 }
@@ -84,7 +84,7 @@ pub fn is_monotone(h: i64, z: i64, m: i32, n: i32) -> bool
 // The verdict on the piece of width h and rise z with the slopes m and n at its ends, or its refusal: by 3 where the width, else by 4 where
 // the rise is outside its limits, at place 0.
 pub fn judge(h: i64, z: i64, m: i32, n: i32) -> Verdict
-    ensures { λ r. ⌜ Judged h z m n (answerOf r) ⌝ }
+    ensures { λ r. ⌜ Judged h z m n (rulingOf r) ⌝ }
 {
     if !rules::width_within(h) {
         return Verdict::Refused(Refusal {

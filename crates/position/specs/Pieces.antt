@@ -12,7 +12,7 @@ use Rattle.integers.specs.Linear.{lin, says}
 use Rattle.integers.specs.Order.{≤ℤ-or-<ℤ, ≤ℤ-antisym, ≤ℤ-trans, <ℤ→≤ℤ, 0≤-gap}
 use Rattle.rules.specs.Order.{neither-less}
 use Rattle.table.specs.Table.{entry, step}
-use Rattle.table.specs.Accepted.{Points}
+use Rattle.table.specs.Accepted.{PointsWithin}
 use Rattle.position.specs.Position.{Belongs, inside, at-last-knot}
 
 -- what is at most the last knot is in the last piece
@@ -31,7 +31,7 @@ pub ends : {ks : List ℤ} {x : ℤ} {i : ℕ} → Belongs ks x i → x ≤ℤ e
 ends (inside l a b) = <ℤ→≤ℤ b
 ends {x = x} (at-last-knot e f) = subst (λ (v : ℤ). x ≤ℤ v) f (≤ℤ-refl x)
 
-module _ {ks vs : List ℤ} (p : Points ks vs) where
+module _ {ks vs : List ℤ} (p : PointsWithin ks vs) where
   -- the knots are in order
   next : (i : ℕ) → i + 1 < length ks → entry ks i <ℤ entry ks (i + 1)
   next i l = above (entry ks i) (entry ks (i + 1)) (p .widths i l .low)

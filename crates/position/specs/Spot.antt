@@ -32,18 +32,18 @@ of-spot {tab} {i} {x} {h = h} {z} {m} {n} R s r =
     (subst₂ (λ (left t : ℤ). R left h z m n t) (s .left-is) (s .t-is) r)
 
 -- a piece as an accepted table has it, and a count in it
-pub record Inside (h z m n t : ℤ) : Type 0 where
+pub record InPiece (h z m n t : ℤ) : Type 0 where
   pub width : WidthWithin h
   pub rise : RiseWithin z
   pub monotone : Monotone unit h z m n
   pub place : Between (pos 0) t h
 
 pub inside-accepted : {tab : Table} {i : ℕ} {x : ℤ} → Accepted tab → Belongs (tab .knots) x i
-    → Inside (step (tab .knots) i) (step (tab .values) i) (entry (tab .slopes) i) (entry (tab .slopes) (i + 1)) (x -ℤ entry (tab .knots) i)
+    → InPiece (step (tab .knots) i) (step (tab .values) i) (entry (tab .slopes) i) (entry (tab .slopes) (i + 1)) (x -ℤ entry (tab .knots) i)
 inside-accepted {i = i} a b =
     let l = within-list b in record { width = a .limits .widths i l; rise = a .limits .rises i l; monotone = a .pieces i l; place = inside-piece (a .limits) b }
 
-pub inside-spot : {tab : Table} {i : ℕ} {x left h z m n t : ℤ} → Accepted tab → Belongs (tab .knots) x i → SpotOn tab i x left h z m n t → Inside h z m n t
+pub inside-spot : {tab : Table} {i : ℕ} {x left h z m n t : ℤ} → Accepted tab → Belongs (tab .knots) x i → SpotOn tab i x left h z m n t → InPiece h z m n t
 inside-spot {t = t} a b s =
-    same₄ (λ (h z m n : ℤ). Inside h z m n t) (sym (s .h-is)) (sym (s .z-is)) (sym (s .m-is)) (sym (s .n-is))
-    (subst (Inside _ _ _ _) (sym (s .t-is)) (inside-accepted a b))
+    same₄ (λ (h z m n : ℤ). InPiece h z m n t) (sym (s .h-is)) (sym (s .z-is)) (sym (s .m-is)) (sym (s .n-is))
+    (subst (InPiece _ _ _ _) (sym (s .t-is)) (inside-accepted a b))

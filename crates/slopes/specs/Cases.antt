@@ -10,8 +10,8 @@ use borrow.Author.Tests.{eq-eqb, ne-eqb, lt-ltb, le-ltb}
 use Rattle.cubic.specs.Piece.{unit}
 use Rattle.cubic.specs.Slopes.{innerSlope}
 use Rattle.table.specs.Table.{step}
-use Rattle.table.specs.Accepted.{Points}
-use Rattle.slopes.specs.Sizes.{Within}
+use Rattle.table.specs.Accepted.{PointsWithin}
+use Rattle.slopes.specs.Sizes.{PieceWithin}
 use Rattle.slopes.specs.Slopes.{endAt, innerAt, builtSlope}
 
 module _ (ks vs : List ℤ) (i : ℕ) where
@@ -36,5 +36,5 @@ module _ (ks vs : List ℤ) (i : ℕ) where
       ∙ inner-slope e l
 
 -- a piece as it was read is within the limits
-pub piece-within : {ks vs : List ℤ} {h z : ℤ} (i : ℕ) → Points ks vs → i + 1 < length ks → h ≡ step ks i → z ≡ step vs i → Within h z
-piece-within i p l e f = subst₂ Within (sym e) (sym f) (record { width = p .widths i l; rise = p .rises i l })
+pub piece-within : {ks vs : List ℤ} {h z : ℤ} (i : ℕ) → PointsWithin ks vs → i + 1 < length ks → h ≡ step ks i → z ≡ step vs i → PieceWithin h z
+piece-within i p l e f = subst₂ PieceWithin (sym e) (sym f) (record { width = p .widths i l; rise = p .rises i l })

@@ -11,14 +11,14 @@ use Rattle.rules.specs.Order.{went-on}
 use Rattle.cubic.specs.Piece.{unit, Monotone}
 use Rattle.cubic.specs.Fair.{fair-monotone}
 use Rattle.table.specs.Table.{table, step, MonotoneAt, Holds, not-monotone, checkOrder}
-use Rattle.table.specs.Accepted.{Points, accepted-points, points-accepted}
+use Rattle.table.specs.Accepted.{PointsWithin, accepted-points, points-accepted}
 use Rattle.rules.specs.Known.{0<-width}
 use Rattle.slopes.specs.Slopes.{builtSlope, builtSlopes, Built}
 use Rattle.slopes.specs.Put.{tab-length, tab-entry}
 use Rattle.slopes.specs.FairSlopes.{left-fair, right-fair}
 
 -- the slopes as they stand in the list
-monotone-at : {ks vs : List ℤ} → Points ks vs → (i : ℕ) → i + 1 < length ks → MonotoneAt (table ks vs (builtSlopes ks vs)) i
+monotone-at : {ks vs : List ℤ} → PointsWithin ks vs → (i : ℕ) → i + 1 < length ks → MonotoneAt (table ks vs (builtSlopes ks vs)) i
 monotone-at {ks} {vs} p i l =
     subst₂ (Monotone unit (step ks i) (step vs i)) (sym (tab-entry (length ks) (builtSlope ks vs) i (omega arith))) (sym (tab-entry (length ks) (builtSlope ks vs) (i + 1) l))
     (fair-monotone (ltZ-yes tt) (0<-width (p .widths i l)) (left-fair p i l) (right-fair p i l))

@@ -11,12 +11,12 @@ use lib.ListN.{length}
 use Rattle.cubic.specs.Piece.{unit}
 use Rattle.cubic.specs.Fair.{Fair, end-fair, inner-fair, inner-mirrored}
 use Rattle.table.specs.Table.{step}
-use Rattle.table.specs.Accepted.{Points}
+use Rattle.table.specs.Accepted.{PointsWithin}
 use Rattle.rules.specs.Known.{0<-width}
 use Rattle.slopes.specs.Slopes.{endAt, innerAt, builtSlope}
 use Rattle.slopes.specs.Cases.{first-slope, last-slope, inner-slope}
 
-module _ {ks vs : List ℤ} (p : Points ks vs) where
+module _ {ks vs : List ℤ} (p : PointsWithin ks vs) where
   0<-step : (i : ℕ) → i + 1 < length ks → pos 0 <ℤ step ks i
   0<-step i l = 0<-width (p .widths i l)
 

@@ -7,20 +7,19 @@ use lib.Signed.{_≤ℤ_, _<ℤ_, ltZ-yes, leZ-yes}
 use Rattle.integers.specs.Ring.{ring, quote}
 use Rattle.integers.specs.Linear.{lin, says}
 use Rattle.integers.specs.Order.{≤ℤ-trans, 0≤-gap, at-most, signs}
-use Rattle.integers.specs.Within.{within}
-use Rattle.integers.specs.Within as size
+use Rattle.integers.specs.Within.{Within, within}
 use Rattle.cubic.specs.Piece.{unit}
 use Rattle.cubic.specs.Slopes.{mean}
 use Rattle.cubic.specs.Fair.{0≤-mean, mean-high}
 use Rattle.rules.specs.Limits.{WidthWithin, RiseWithin}
 use Rattle.rules.specs.Known.{0<-width}
 
-pub record Within (h z : ℤ) : Type 0 where
+pub record PieceWithin (h z : ℤ) : Type 0 where
   pub width : WidthWithin h
   pub rise : RiseWithin z
 
 pub record Up (h z : ℤ) : Type 0 where
-  pub within : Within h z
+  pub within : PieceWithin h z
   pub up : pos 0 <ℤ z
 
 -- m is the mean, as a relation, which shows the pieces to a caller's proof
@@ -28,7 +27,7 @@ pub record Mean (h₁ z₁ h₂ z₂ m : ℤ) : Type 0 where
   pub is : m ≡ mean unit h₁ z₁ h₂ z₂
 
 -- "at most three times as steep as the piece" is at most three units times the largest rise
-pub mean-within : {h₁ z₁ h₂ z₂ : ℤ} → Up h₁ z₁ → Up h₂ z₂ → size.Within 805306368 (mean unit h₁ z₁ h₂ z₂)
+pub mean-within : {h₁ z₁ h₂ z₂ : ℤ} → Up h₁ z₁ → Up h₂ z₂ → Within 805306368 (mean unit h₁ z₁ h₂ z₂)
 mean-within {h₁} {z₁} {h₂} {z₂} a b =
     let m₀ = 0≤-mean {U = unit} (ltZ-yes tt) (0<-width (a .within .width)) (0<-width (b .within .width)) (a .up) (b .up) in
     let m₁ = mean-high {U = unit} (ltZ-yes tt) (0<-width (a .within .width)) (0<-width (b .within .width)) (a .up) (b .up) in

@@ -2,14 +2,14 @@
 ghost use mathlib.Core.Path.{_≡_};
 ghost use Prim.Native.Nat.{_-_, _≤_, _<_};
 ghost use lib.ListN.{length};
-ghost use Rattle.table.specs.Accepted.{Points};
+ghost use Rattle.table.specs.Accepted.{PointsWithin};
 ghost use Rattle.slopes.specs.Slopes.{builtSlope};
 ghost use Rattle.slopes.specs.Put.{put};
 use crate::rule;
 
 // At point i, an end or between two pieces.
 pub(crate) fn slope(knots: &[i32], values: &[i32], i: usize) -> i32
-    requires { ⌜ Points (now knots) (now values) ⌝ }
+    requires { ⌜ PointsWithin (now knots) (now values) ⌝ }
     requires { ⌜ i < length (now knots) ⌝ }
     ensures { λ r. ⌜ r ≡ builtSlope (now (knots .entry)) (now (values .entry)) i ⌝ }
 {
@@ -27,7 +27,7 @@ pub(crate) fn slope(knots: &[i32], values: &[i32], i: usize) -> i32
 
 // Puts the slopes of the points from `from` up to and without `to` into their places.
 pub fn renew(knots: &[i32], values: &[i32], slopes: &mut [i32], from: usize, to: usize)
-    requires { ⌜ Points (now knots) (now values) ⌝ }
+    requires { ⌜ PointsWithin (now knots) (now values) ⌝ }
     requires { ⌜ length (now slopes) ≡ length (now knots) ⌝ }
     requires { ⌜ from ≤ to ⌝ }
     requires { ⌜ to ≤ length (now knots) ⌝ }

@@ -2,11 +2,11 @@
 ghost use mathlib.Core.Path.{_≡_};
 ghost use Rattle.cubic.specs.Piece.{unit};
 ghost use Rattle.cubic.specs.Slopes.{endSlope, innerSlope};
-ghost use Rattle.slopes.specs.Sizes.{Within, Up, Mean};
+ghost use Rattle.slopes.specs.Sizes.{PieceWithin, Up, Mean};
 
 // At an end of the table: the slope of the end piece, rounded toward zero.
 pub(crate) fn end(h: i64, z: i64) -> i32
-    requires { ⌜ Within h z ⌝ }
+    requires { ⌜ PieceWithin h z ⌝ }
     ensures { λ r. ⌜ r ≡ endSlope unit h z ⌝ }
 {
     let steepness = rules::UNIT * z / h;
@@ -27,8 +27,8 @@ fn mean(h1: i64, z1: i64, h2: i64, z2: i64) -> i32
 
 // At an inner point, with the piece h1, z1 on its left and h2, z2 on its right.
 pub(crate) fn inner(h1: i64, z1: i64, h2: i64, z2: i64) -> i32
-    requires { ⌜ Within h1 z1 ⌝ }
-    requires { ⌜ Within h2 z2 ⌝ }
+    requires { ⌜ PieceWithin h1 z1 ⌝ }
+    requires { ⌜ PieceWithin h2 z2 ⌝ }
     ensures { λ r. ⌜ r ≡ innerSlope unit h1 z1 h2 z2 ⌝ }
 {
     if z1 * z2 <= 0 {

@@ -2,7 +2,7 @@
 ghost use mathlib.Core.Path.{_≡_};
 ghost use Prim.Native.Nat.{_-_};
 ghost use lib.ListN.{length};
-ghost use Rattle.table.specs.Accepted.{Points};
+ghost use Rattle.table.specs.Accepted.{PointsWithin};
 ghost use Rattle.slopes.specs.Slopes.{builtSlope};
 ghost use Rattle.slopes.specs.Put.{put};
 use crate::rule;
@@ -10,7 +10,7 @@ use crate::rule;
 // Puts the slopes of the points between the first and the last into their places. The ends have a rule of their own, which `point::slope` knows, and are
 // left as they are.
 pub(crate) fn inner(knots: &[i32], values: &[i32], slopes: &mut [i32])
-    requires { ⌜ Points (now knots) (now values) ⌝ }
+    requires { ⌜ PointsWithin (now knots) (now values) ⌝ }
     requires { ⌜ length (now slopes) ≡ length (now knots) ⌝ }
     ensures { λ _. ⌜ now (slopes .exit) ≡ put (builtSlope (now (knots .entry)) (now (values .entry))) 1 (length (now (knots .entry)) - 2) (now (slopes .entry)) ⌝ }
 {

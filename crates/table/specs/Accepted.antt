@@ -10,10 +10,10 @@ use Rattle.cubic.specs.Monotone.{monotone-stable}
 use Rattle.rules.specs.Limits.{CountWithin, WidthWithin, RiseWithin}
 use Rattle.rules.specs.Refusals.{Given, done, passed}
 use Rattle.rules.specs.Order.{clear, rest, front, behind}
-use Rattle.table.specs.Table.{Table, table, step, points, SameLengths, MonotoneAt, Holds, lengths-differ, too-few-or-many, width-outside, rise-outside, not-monotone, buildOrder, checkOrder}
+use Rattle.table.specs.Table.{Table, table, step, pointCount, SameLengths, MonotoneAt, Holds, lengths-differ, too-few-or-many, width-outside, rise-outside, not-monotone, buildOrder, checkOrder}
 
 -- as many values as knots, in number, width and rise within the limits
-pub record Points (ks vs : List ℤ) : Type 0 where
+pub record PointsWithin (ks vs : List ℤ) : Type 0 where
   pub lengths : length vs ≡ length ks
   pub count : CountWithin (length ks)
   pub widths : (i : ℕ) → i + 1 < length ks → WidthWithin (step ks i)
@@ -41,7 +41,7 @@ same-lengths {t} f =
       slopes = equal (λ g. f 0 (lengths-differ (λ (s : SameLengths t). g (s .slopes))));
     }
 
-pub accepted-points : {ks vs ss : List ℤ} {n p : ℕ} → n ≡ 0 → Given (Holds (table ks vs ss)) buildOrder n p → Points ks vs
+pub accepted-points : {ks vs ss : List ℤ} {n p : ℕ} → n ≡ 0 → Given (Holds (table ks vs ss)) buildOrder n p → PointsWithin ks vs
 accepted-points e g =
     let after-1 = rest e g in
     let after-2 = rest e after-1 in
@@ -54,7 +54,7 @@ accepted-points e g =
 
 -- a table that passes the table check
 pub record Accepted (t : Table) : Type 0 where
-  pub limits : Points (t .knots) (t .values)
+  pub limits : PointsWithin (t .knots) (t .values)
   pub slopes : length (t .slopes) ≡ length (t .knots)
   pub pieces : (i : ℕ) → i + 1 < length (t .knots) → MonotoneAt t i
 
@@ -71,10 +71,10 @@ accepted-table e g =
 pub same-length-passes : {t : Table} → SameLengths t → (q : ℕ) → Holds t 1 q → ⊥
 same-length-passes s _ (lengths-differ f) = f s
 
-pub count-passes : {t : Table} → CountWithin (points t) → (q : ℕ) → Holds t 2 q → ⊥
+pub count-passes : {t : Table} → CountWithin (pointCount t) → (q : ℕ) → Holds t 2 q → ⊥
 count-passes w _ (too-few-or-many f) = f w
 
-pub points-accepted : {ks vs ss : List ℤ} → Points ks vs → length ss ≡ length ks → Given (Holds (table ks vs ss)) buildOrder 0 0
+pub points-accepted : {ks vs ss : List ℤ} → PointsWithin ks vs → length ss ≡ length ks → Given (Holds (table ks vs ss)) buildOrder 0 0
 points-accepted {ks} {vs} {ss} p e =
     passed (same-length-passes (record { values = p .lengths; slopes = e })) (passed (count-passes (p .count)) (passed widths (passed rises done)))
   where

@@ -9,12 +9,12 @@ use Rattle.rules.specs.Limits.{CountWithin}
 use Rattle.rules.specs.Refusals.{Given, done, refused, passed}
 use Rattle.rules.specs.Order.{Same, none, also, without, one-more-cause, other-way, carried, unasked, asked-too, clear, behind}
 use Rattle.table.specs.declared.changed.Change.{Change}
-use Rattle.table.specs.Table.{Table, points, SameLengths, Holds, lengths-differ, too-few-or-many, buildOrder}
-use Rattle.table.specs.Changed.{changedBy, HoldsAfter, of-points, no-such-point, changeOrder}
-use Rattle.table.specs.Accepted.{Points, at-most, same-lengths, accepted-points}
+use Rattle.table.specs.Table.{Table, pointCount, SameLengths, Holds, lengths-differ, too-few-or-many, buildOrder}
+use Rattle.table.specs.WouldBe.{changedBy, HoldsAfter, of-points, no-such-point, changeOrder}
+use Rattle.table.specs.Accepted.{PointsWithin, at-most, same-lengths, accepted-points}
 
 module _ (c : Change) (t : Table) where
-  as-many : points (changedBy c t) ≡ points t
+  as-many : pointCount (changedBy c t) ≡ pointCount t
   as-many = length-set (t .knots) (c .point) (c .knot)
 
   as-many-values : length (changedBy c t .values) ≡ length (t .values)
@@ -57,28 +57,28 @@ module _ (c : Change) (t : Table) where
   as-stepped = carried (beside-7 (3 ∷ 4 ∷ []) tt)
 
   -- 7 by itself
-  pub refused-nowhere : points t ≤ c .point → Given (HoldsAfter c t) (7 ∷ []) 7 0
-  refused-nowhere l = refused (no-such-point (λ (k : c .point < points t). omega arith)) (λ _ l _. absurd (omega (arith, l)))
+  pub refused-nowhere : pointCount t ≤ c .point → Given (HoldsAfter c t) (7 ∷ []) 7 0
+  refused-nowhere l = refused (no-such-point (λ (k : c .point < pointCount t). omega arith)) (λ _ l _. absurd (omega (arith, l)))
 
-  there : c .point < points t → (p : ℕ) → HoldsAfter c t 7 p → ⊥
+  there : c .point < pointCount t → (p : ℕ) → HoldsAfter c t 7 p → ⊥
   there l p (no-such-point f) = f l
 
-  pub taken-there : c .point < points t → Given (HoldsAfter c t) (7 ∷ []) 0 0
+  pub taken-there : c .point < pointCount t → Given (HoldsAfter c t) (7 ∷ []) 0 0
   taken-there l = passed (there l) done
 
   -- where the point is there, the order is that of a build of the points as they would be
-  pub as-a-build : {n p : ℕ} → c .point < points t → Given (HoldsAfter c t) changeOrder n p → Given (Holds (changedBy c t)) buildOrder n p
+  pub as-a-build : {n p : ℕ} → c .point < pointCount t → Given (HoldsAfter c t) changeOrder n p → Given (Holds (changedBy c t)) buildOrder n p
   as-a-build l g = carried (other-way (beside-7 buildOrder tt)) (unasked (1 ∷ 2 ∷ []) 7 (3 ∷ 4 ∷ []) (there l) g)
 
-  pub as-changed : {n p : ℕ} → c .point < points t → Given (Holds (changedBy c t)) buildOrder n p → Given (HoldsAfter c t) changeOrder n p
+  pub as-changed : {n p : ℕ} → c .point < pointCount t → Given (Holds (changedBy c t)) buildOrder n p → Given (HoldsAfter c t) changeOrder n p
   as-changed l g = asked-too (1 ∷ 2 ∷ []) 7 (3 ∷ 4 ∷ []) (there l) (carried (beside-7 buildOrder tt) g)
 
   -- what is known where nothing is refused
   module _ {n p : ℕ} (e : n ≡ 0) (g : Given (HoldsAfter c t) changeOrder n p) where
-    pub point-there : c .point < points t
-    point-there = at-most (λ (l : points t < suc (c .point)). clear e (behind (1 ∷ 2 ∷ []) e g) 0 (no-such-point (λ (k : c .point < points t). omega arith)))
+    pub point-there : c .point < pointCount t
+    point-there = at-most (λ (l : pointCount t < suc (c .point)). clear e (behind (1 ∷ 2 ∷ []) e g) 0 (no-such-point (λ (k : c .point < pointCount t). omega arith)))
 
-    pub accepted-then : Points (changedBy c t .knots) (changedBy c t .values)
+    pub accepted-then : PointsWithin (changedBy c t .knots) (changedBy c t .values)
     accepted-then = accepted-points e (as-a-build point-there g)
 
     pub equally-long : SameLengths t

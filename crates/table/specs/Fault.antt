@@ -3,7 +3,7 @@ use mathlib.Core.Path.{subst}
 use Prim.Native.Nat.{ℕ, _+_, _≤_, _<_}
 use native.Mathlib.Omega.{arith}
 use Rattle.rules.specs.Limits.{WidthWithin, RiseWithin}
-use Rattle.table.specs.Table.{Table, step, points, MonotoneAt, Holds, lengths-differ, too-few-or-many, width-outside, rise-outside, not-monotone}
+use Rattle.table.specs.Table.{Table, step, pointCount, MonotoneAt, Holds, lengths-differ, too-few-or-many, width-outside, rise-outside, not-monotone}
 use Rattle.table.specs.declared.search.Points.{Points}
 use Rattle.table.specs.Search.{asked, as-many, Askable, SoundAt, FaultAt, sound, faulty}
 
@@ -26,7 +26,7 @@ module _ (t : Table) where
     pub sound-piece : RiseWithin (step (t .values) i) → MonotoneAt t i → FaultAt (Holds t) last i 0
     sound-piece r m = sound (sound-to last i w (λ _. r) (λ _. m))
 
-  module _ {last : ℕ} (i : ℕ) (here : i + 1 < points t) where
+  module _ {last : ℕ} (i : ℕ) (here : i + 1 < pointCount t) where
     pub fault-of-width : Askable last → (WidthWithin (step (t .knots) i) → ⊥) → FaultAt (Holds t) last i 3
     fault-of-width k f = faulty {c = 2} (omega arith) (k .low) (width-outside here f) (λ c a b _. absurd (omega (arith, a, b)))
 
@@ -38,12 +38,12 @@ module _ (t : Table) where
     fault-of-bend l w r f = faulty {c = 4} (omega arith) l (not-monotone here f) (sound-to 4 i w (λ _. r) (λ (a : 5 ≤ 4). absurd (omega arith)))
 
   -- 3, 4 and 5 are of pieces that are there
-  piece-there : (c q : ℕ) → 3 ≤ c → Holds t c q → q + 1 < points t
+  piece-there : (c q : ℕ) → 3 ≤ c → Holds t c q → q + 1 < pointCount t
   piece-there c q a (lengths-differ f) = absurd (omega (arith, a))
   piece-there c q a (too-few-or-many f) = absurd (omega (arith, a))
   piece-there c q a (width-outside l f) = l
   piece-there c q a (rise-outside l f) = l
   piece-there c q a (not-monotone l f) = l
 
-pub asked-there : (p : Points) (t : Table) (c q : ℕ) → 3 ≤ c → Holds (asked p t) c q → q + 1 < points t
+pub asked-there : (p : Points) (t : Table) (c q : ℕ) → 3 ≤ c → Holds (asked p t) c q → q + 1 < pointCount t
 asked-there p t c q a h = subst (λ (n : ℕ). q + 1 < n) (as-many p t) (piece-there (asked p t) c q a h)

@@ -1,6 +1,6 @@
 pub mod Accepted
 pub mod AfterChange
-pub mod Changed
+pub mod WouldBe
 pub mod Search
 pub mod Table
 pub mod Tested

@@ -10,7 +10,7 @@ use mir.Val.{SFits, toZ, ofZ}
 use mir.Facts.{toZ-ofZ}
 use Rattle.table.specs.declared.search.Points.{Points}
 use Rattle.table.specs.declared.search.Points.the-variants.{Now, After}
-use Rattle.table.specs.Table.{Table, table, step, points}
+use Rattle.table.specs.Table.{Table, table, step, pointCount}
 
 -- the points that are asked
 abbrev pub knotsOf : Points → List ℤ → List ℤ
@@ -24,7 +24,7 @@ valuesOf (After c) vs = set vs (c .point) (c .value)
 abbrev pub asked : Points → Table → Table
 asked p t = table (knotsOf p (t .knots)) (valuesOf p (t .values)) (t .slopes)
 
-pub as-many : (p : Points) (t : Table) → points (asked p t) ≡ points t
+pub as-many : (p : Points) (t : Table) → pointCount (asked p t) ≡ pointCount t
 as-many Now t = refl
 as-many (After c) t = length-set (t .knots) (c .point) (c .knot)
 

@@ -27,27 +27,28 @@ abbrev pub step : List ℤ → ℕ → ℤ
 step list i = entry list (i + 1) -ℤ entry list i
 
 module _ (t : Table) where
-  -- how many points there are, where the lists are equally long; else the number of knots, which 1 alone looks at
-  abbrev pub points : ℕ
-  points = length (t .knots)
+  -- How many points there are, where the lists are equally long; else the number of knots. The other causes look at that as well, but no answer rests on it: 1 holds
+  -- then, and stands first in every order.
+  abbrev pub pointCount : ℕ
+  pointCount = length (t .knots)
 
   -- as many values and as many slopes as knots
   pub record SameLengths : Type 0 where
-    pub values : length (t .values) ≡ points
-    pub slopes : length (t .slopes) ≡ points
+    pub values : length (t .values) ≡ pointCount
+    pub slopes : length (t .slopes) ≡ pointCount
 
   -- piece i is monotone with the slopes at its two ends
   abbrev pub MonotoneAt : ℕ → Type 0
   MonotoneAt i = Monotone unit (step (t .knots) i) (step (t .values) i) (entry (t .slopes) i) (entry (t .slopes) (i + 1))
 
   -- Causes 1 to 5 of "Refusal numbers": the one with this number holds at this place. 3, 4 and 5 hold at each faulty piece; `Given` takes the first.
-  -- `i + 1 < points` says that there is a piece i, and `X → ⊥` that X is not so.
+  -- `i + 1 < pointCount` says that there is a piece i, and `X → ⊥` that X is not so.
   pub data Holds : ℕ → ℕ → Type 0 where
     lengths-differ : (SameLengths → ⊥) → Holds 1 0
-    too-few-or-many : (CountWithin points → ⊥) → Holds 2 0
-    width-outside : {i : ℕ} → i + 1 < points → (WidthWithin (step (t .knots) i) → ⊥) → Holds 3 i
-    rise-outside : {i : ℕ} → i + 1 < points → (RiseWithin (step (t .values) i) → ⊥) → Holds 4 i
-    not-monotone : {i : ℕ} → i + 1 < points → (MonotoneAt i → ⊥) → Holds 5 i
+    too-few-or-many : (CountWithin pointCount → ⊥) → Holds 2 0
+    width-outside : {i : ℕ} → i + 1 < pointCount → (WidthWithin (step (t .knots) i) → ⊥) → Holds 3 i
+    rise-outside : {i : ℕ} → i + 1 < pointCount → (RiseWithin (step (t .values) i) → ⊥) → Holds 4 i
+    not-monotone : {i : ℕ} → i + 1 < pointCount → (MonotoneAt i → ⊥) → Holds 5 i
 
 -- "build: 1, 2, 3, 4"; "table check: 1, 2, 3, 4, 5"
 abbrev pub buildOrder : List ℕ

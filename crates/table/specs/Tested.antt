@@ -12,7 +12,7 @@ use mir.Facts.{and-yes}
 use Rattle.integers.specs.Promise.{Between}
 use Rattle.rules.specs.Limits.{CountWithin}
 use Rattle.table.specs.Table.{entry, step}
-use Rattle.table.specs.Accepted.{Points}
+use Rattle.table.specs.Accepted.{PointsWithin}
 
 -- the steps of a list lie between two numbers
 module _ (l h : ℤ) where
@@ -31,7 +31,7 @@ module _ (l h : ℤ) where
       subst (λ (j : ℕ). Between l (entry (x ∷ y ∷ more) j -ℤ entry (y ∷ more) i) h) {x = suc (i + 1)} {y = suc i + 1} (omega arith)
       (each-step (y ∷ more) (and-yes (leZ l (y -ℤ x) && leZ (y -ℤ x) h) (steps-within (y ∷ more)) t .1) i (omega (arith, m)))
 
-pub points-by-test : (ks vs : List ℤ) → length vs ≡ length ks → CountWithin (length ks) → T (steps-within (pos 1) (pos 1024) ks && steps-within (negsuc 1048575) (pos 1048576) vs) → Points ks vs
+pub points-by-test : (ks vs : List ℤ) → length vs ≡ length ks → CountWithin (length ks) → T (steps-within (pos 1) (pos 1024) ks && steps-within (negsuc 1048575) (pos 1048576) vs) → PointsWithin ks vs
 points-by-test ks vs e count t =
     let b = and-yes (steps-within (pos 1) (pos 1024) ks) (steps-within (negsuc 1048575) (pos 1048576) vs) t in
     record { lengths = e; count = count; widths = each-step _ _ ks (b .0); rises = λ i m. each-step _ _ vs (b .1) i (omega (arith, e, m)) }

@@ -3,7 +3,7 @@ ghost use mathlib.Core.List.{[], _∷_};
 ghost use Prim.Native.Nat.{_-_};
 ghost use Rattle.rules.specs.Refusals.{Given};
 ghost use Rattle.table.specs.Table.{table, Holds, buildOrder, checkOrder};
-ghost use Rattle.table.specs.Changed.{HoldsAfter, changeOrder};
+ghost use Rattle.table.specs.WouldBe.{HoldsAfter, changeOrder};
 ghost use Rattle.table.specs.Search.{Askable, numbers};
 use crate::changed::Change;
 use crate::search;

@@ -13,9 +13,9 @@ use borrow.Author.Needs.{needs}
 use Rattle.rules.specs.Refusals.{Given}
 use Rattle.rules.specs.Order.{kept, replaced}
 use Rattle.table.specs.Table.{Table, table, SameLengths}
-use Rattle.table.specs.Changed.{changedBy, HoldsAfter, changeOrder}
+use Rattle.table.specs.WouldBe.{changedBy, HoldsAfter, changeOrder}
 use Rattle.table.specs.AfterChange.{point-there, accepted-then, equally-long}
-use Rattle.table.specs.Accepted.{Points}
+use Rattle.table.specs.Accepted.{PointsWithin}
 use Rattle.slopes.specs.Slopes.{builtSlope}
 use Rattle.change.specs.Change.{renewed, renewedSlopes}
 use Rattle.change.proofs.point.Statement.{statement}
@@ -92,7 +92,7 @@ renew-requires c κs =
     let d = e .before .before in
     let s = start d .args in
     let list = s .knots .now in (
-      subst₂ Points (sym (new-knots (told e))) (sym (new-values (told e))) (accepted-then (s .change) (old (start d)) (e .if1 .left) (given d)),
+      subst₂ PointsWithin (sym (new-knots (told e))) (sym (new-values (told e))) (accepted-then (s .change) (old (start d)) (e .if1 .left) (given d)),
       (lists e .slopes ∙ sym (length-set list (s .change .point) _), lt-length-set list (s .change .point) _ (there e)),
     )
 

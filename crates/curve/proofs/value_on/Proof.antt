@@ -11,7 +11,7 @@ use Rattle.integers.specs.Within.{Within}
 use Rattle.integers.specs.Sizes.{Known, known, held, fits, plain-is, code}
 use Rattle.cubic.specs.Piece.{unit}
 use Rattle.cubic.specs.Value.{risen}
-use Rattle.position.specs.Spot.{Inside}
+use Rattle.position.specs.Spot.{InPiece}
 use Rattle.position.specs.Held.{Held, held-fields, as-held, of-held}
 use Rattle.curve.specs.OnPiece.{risen-within, value-fits}
 use Rattle.curve.proofs.value_on.Statement.{statement}
@@ -22,7 +22,7 @@ spot : (c : tie.After-struct-told) → let s = c .before .args .s in Held (s .le
 spot c = held-fields (c .struct-told .given)
 
 risen-requires : tie.Need-risen-requires
-risen-requires c κs = let p = c .before .before .before .before in as-held Inside (spot p) (p .before .pre .0)
+risen-requires c κs = let p = c .before .before .before .before in as-held InPiece (spot p) (p .before .pre .0)
 
 has-risen : (c : tie.After-risen) → let s = c .before .before .before .before .before .before .args .s in c .risen .result ≡ risen unit (s .h) (s .z) (s .m) (s .n) (s .t)
 has-risen c = of-held (λ (h z m n t : ℤ). c .risen .result ≡ risen unit h z m n t) (spot (c .before .before .before .before .before)) (c .risen .ensures)

@@ -18,8 +18,8 @@ use Rattle.table.specs.Table.{Table, table}
 use Rattle.table.specs.Accepted.{Accepted}
 use Rattle.position.specs.Position.{Belongs, Located}
 use Rattle.position.specs.Refused.{accepted-at}
-use Rattle.position.specs.Spot.{SpotOn, Inside, of-spot, inside-spot}
-use Rattle.drive.specs.Drive.{Told, resting, toldOf, ToldIn, Driving, HoldsFor, floatOrder}
+use Rattle.position.specs.Spot.{SpotOn, InPiece, of-spot, inside-spot}
+use Rattle.drive.specs.Drive.{Telling, resting, toldOf, ToldIn, Driving, HoldsFor, floatOrder}
 use Rattle.drive.specs.Refused.{as-evaluated, refused-large, taken-small}
 use Rattle.drive.proofs.float_answer.Statement.{statement}
 use Rattle.drive.proofs.float_answer.Tie as tie
@@ -62,7 +62,7 @@ module _ (c : tie.After-spot-on) where
       let r = c .spot-on .result in
       subst (λ (x : ℤ). SpotOn (curveOf s) i x (r .left) (r .h) (r .z) (r .m) (r .n) (r .t)) (toZ-ofZ (s .fits .position)) (c .spot-on .ensures)
 
-  inside : let r = c .spot-on .result in Inside (r .h) (r .z) (r .m) (r .n) (r .t)
+  inside : let r = c .spot-on .result in InPiece (r .h) (r .z) (r .m) (r .n) (r .t)
   inside = inside-spot (accepted (c .before)) (belongs (c .before)) spot
 
 too-large-requires : tie.Need-too-large-requires
@@ -87,9 +87,9 @@ refused-requires-2 c κs = search needs
 -- ---- the three answers
 
 -- a refused one, by what `refused` says of it
-rests : {t : Table} {x : ℤ} {r q : Refusal} {a : Told} → r ≡ q → a ≡ resting → (q .number ≡ 0 → ⊥) → Given (HoldsFor t x) floatOrder (q .number) (q .place) → Driving t x (r .number) (r .place) a
+rests : {t : Table} {x : ℤ} {r q : Refusal} {a : Telling} → r ≡ q → a ≡ resting → (q .number ≡ 0 → ⊥) → Given (HoldsFor t x) floatOrder (q .number) (q .place) → Driving t x (r .number) (r .place) a
 rests {t} {x} e f n g =
-    subst₂ (λ (r : Refusal) (a : Told). Driving t x (r .number) (r .place) a) (sym e) (sym f) (record { refusal = g; answer = refused-answer n })
+    subst₂ (λ (r : Refusal) (a : Telling). Driving t x (r .number) (r .place) a) (sym e) (sym f) (record { refusal = g; answer = refused-answer n })
 
 returns : tie.Need-returns
 returns c =

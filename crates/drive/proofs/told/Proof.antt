@@ -15,7 +15,7 @@ use Rattle.cubic.specs.Piece.{unit}
 use Rattle.cubic.specs.Value.{numerator, denominator}
 use Rattle.rules.specs.Limits.{TooLarge}
 use Rattle.rules.specs.Known.{known-rise}
-use Rattle.position.specs.Spot.{Inside}
+use Rattle.position.specs.Spot.{InPiece}
 use Rattle.position.specs.Held.{Held, held-fields, as-held, of-held}
 use Rattle.drive.specs.Drive.{dwells, moves}
 use Rattle.drive.proofs.told.Statement.{statement}
@@ -53,7 +53,7 @@ moving-requires : tie.Need-moving-requires
 moving-requires c κs =
     let p = c .before .before .before .before .before .before .before in
     let pre = p .before .before .pre in
-    (as-held Inside (spot p) (pre .0), as-held (λ (h z m n t : ℤ). TooLarge h z → ⊥) (spot p) (pre .1))
+    (as-held InPiece (spot p) (pre .0), as-held (λ (h z m n t : ℤ). TooLarge h z → ⊥) (spot p) (pre .1))
 
 pub told-spec : {M : Type 1} → statement M
 told-spec = tie.close (tie.spec int-to-float-level returns moving-requires returns-2)

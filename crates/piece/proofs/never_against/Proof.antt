@@ -14,7 +14,7 @@ use Rattle.integers.specs.Within.{Within, within, within-high, within-more}
 use Rattle.integers.specs.Sizes.{Known, known, fits, code}
 use Rattle.integers.specs.Tests.{tests, passed, failed}
 use Rattle.integers.specs.Arguments.{arguments, plainly₃, as-coded₃}
-use Rattle.cubic.specs.Slope.{over, Inside}
+use Rattle.cubic.specs.Slope.{over, InEllipse}
 use Rattle.cubic.specs.Never.{start-not-against, end-not-against, start-below-four, end-below-four}
 use Rattle.cubic.specs.Test.{line, oval, short-accepts, in-oval}
 use Rattle.piece.specs.Sizes.{Low}
@@ -126,8 +126,8 @@ returns-6 c =
     let s = p .before .before .before .before .before in
     let o = above (p .before .before) in
     decided-by _
-    (λ e. short-accepts (oval (start-up (p .before .before .before .before)) (end-up (p .before .before .before)) o (plainly₃ (given s) Inside (told (c .in-ellipse .ensures) e) (search arguments depth 30 fits 9000) tt)))
-    (λ e f. denied (c .in-ellipse .ensures) e (as-coded₃ (given s) Inside (search arguments depth 30 fits 9000) tt (in-oval f o)))
+    (λ e. short-accepts (oval (start-up (p .before .before .before .before)) (end-up (p .before .before .before)) o (plainly₃ (given s) InEllipse (told (c .in-ellipse .ensures) e) (search arguments depth 30 fits 9000) tt)))
+    (λ e f. denied (c .in-ellipse .ensures) e (as-coded₃ (given s) InEllipse (search arguments depth 30 fits 9000) tt (in-oval f o)))
 
 pub never-against-spec : {M : Type 1} → statement M
 never-against-spec =

@@ -1,7 +1,7 @@
 -- `negwafir_judge` meets its contract: each case of the verdict, by its number.
 use borrow.Author.Needs.{needs}
 use mir.Facts.{toZ-ofZ}
-use Rattle.piece.specs.Promise.{rising, falling, flat, bends, none, Judged, answerOf}
+use Rattle.piece.specs.Promise.{rising, falling, flat, bends, none, Judged, rulingOf}
 use Rattle.exports.specs.Cases.{judged}
 use Rattle.exports.proofs.answers.negwafir_judge.Statement.{statement}
 use Rattle.exports.proofs.answers.negwafir_judge.Tie as tie
@@ -25,7 +25,7 @@ enum-known-refusal : tie.Need-enum-known-refusal
 enum-known-refusal c = search needs
 
 -- what `judge` says of its arguments as the code has them holds of the numbers themselves
-said : (c : tie.After-judge) → let s = c .before .args in Judged (s .h) (s .z) (s .m) (s .n) (answerOf (c .judge .result))
+said : (c : tie.After-judge) → let s = c .before .args in Judged (s .h) (s .z) (s .m) (s .n) (rulingOf (c .judge .result))
 said c = let s = c .before .fits in rw (toZ-ofZ (s .h), toZ-ofZ (s .z), toZ-ofZ (s .m), toZ-ofZ (s .n)) at (c .judge .ensures)
 
 returns : tie.Need-returns

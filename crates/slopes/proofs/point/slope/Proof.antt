@@ -10,7 +10,7 @@ use Rattle.integers.specs.Sizes.{returned}
 use Rattle.cubic.specs.Piece.{unit}
 use Rattle.cubic.specs.Slopes.{endSlope}
 use Rattle.table.specs.Table.{step}
-use Rattle.slopes.specs.Sizes.{Within}
+use Rattle.slopes.specs.Sizes.{PieceWithin}
 use Rattle.slopes.specs.Cases.{first-slope, last-slope, piece-within, inner-slope-of}
 use Rattle.slopes.proofs.point.slope.Statement.{statement}
 use Rattle.slopes.proofs.point.slope.Tie as tie
@@ -61,7 +61,7 @@ left-width c = returned w64 (c .step3 .ok) (c .step3 .ensures)
 left-rise : (c : tie.After-step4) → toZ w64 (ofZ w64 (c .step4 .result)) ≡ step (c .before .before .before .args .values .now) (c .before .before .before .args .i - 1)
 left-rise c = returned w64 (c .step4 .ok) (c .step4 .ensures)
 
-left-within : (c : tie.After-step4) → Within (toZ w64 (ofZ w64 (c .before .step3 .result))) (toZ w64 (ofZ w64 (c .step4 .result)))
+left-within : (c : tie.After-step4) → PieceWithin (toZ w64 (ofZ w64 (c .before .step3 .result))) (toZ w64 (ofZ w64 (c .step4 .result)))
 left-within c =
     let s = c .before .before .before in
     piece-within (s .args .i - 1) (s .pre .0) (omega (arith, s .pre .1, c .before .before .if1 .left)) (left-width (c .before)) (left-rise c)

@@ -6,7 +6,7 @@ use lib.IntN.{ℤ, pos, negsuc, negℤ, _*ℤ_}
 use lib.Signed.{_≤ℤ_, _<ℤ_}
 use mir.Facts.{toZ-ofZ}
 use Rattle.integers.specs.Linear.{lin, says}
-use Rattle.integers.specs.Within as size
+use Rattle.integers.specs.Within.{Within}
 use Rattle.integers.specs.Sizes.{Known, known, fits, plain-is, code}
 use Rattle.integers.specs.Tests.{tests, passed, passed-at-most, failed}
 use Rattle.integers.specs.Arguments.{arguments, plainly₄, as-coded₂}
@@ -15,7 +15,7 @@ use Rattle.cubic.specs.Slopes.{mean}
 use Rattle.cubic.specs.Inner.{inner-level, both-up, inner-up, both-down, inner-down}
 use Rattle.rules.specs.Limits.{RiseWithin}
 use Rattle.rules.specs.Known.{known-width, known-rise}
-use Rattle.slopes.specs.Sizes.{Within, Up, Mean, mean-within}
+use Rattle.slopes.specs.Sizes.{PieceWithin, Up, Mean, mean-within}
 use Rattle.slopes.proofs.rule.inner.Statement.{statement}
 use Rattle.slopes.proofs.rule.inner.Tie as tie
 
@@ -50,7 +50,7 @@ down : (c : tie.Then2) → c .before .before .args .z1 <ℤ pos 0
 down c = passed (given (c .before .before)) (c .if2 .taken) (search tests depth 30 fits 9000) tt
 
 -- what falls within the limits rises within them, turned over
-over : {h z : ℤ} → Within h z → pos 0 <ℤ negℤ z → Up h (negℤ z)
+over : {h z : ℤ} → PieceWithin h z → pos 0 <ℤ negℤ z → Up h (negℤ z)
 over {h} {z} w u = record { within = record { width = w .width; rise = turned (w .rise) }; up = u }
   where
     turned : {z : ℤ} → RiseWithin z → RiseWithin (negℤ z)
@@ -77,8 +77,8 @@ fallen : (c : tie.After-mean) → let s = c .before .before .before .args in c .
 fallen c =
     plainly₄ (given (c .before .before .before)) (λ (h₁ z₁ h₂ z₂ : ℤ). Mean h₁ z₁ h₂ z₂ (c .mean .result)) (c .mean .ensures) (search arguments depth 30 fits 9000) tt .is
 
-small : (c : tie.After-mean) → size.Within 805306368 (c .mean .result)
-small c = subst (size.Within 805306368) (sym (fallen c)) (mean-within (falls (c .before) .0) (falls (c .before) .1))
+small : (c : tie.After-mean) → Within 805306368 (c .mean .result)
+small c = subst (Within 805306368) (sym (fallen c)) (mean-within (falls (c .before) .0) (falls (c .before) .1))
 
 abbrev steepness : tie.After-mean → List Known
 steepness c = known (c .mean .result) 805306368 (small c) ∷ []

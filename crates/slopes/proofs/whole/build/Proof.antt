@@ -10,7 +10,7 @@ use mir.Val.{toZ, ofZ}
 use borrow.Author.Needs.{needs}
 use Rattle.integers.specs.Sizes.{returned}
 use Rattle.rules.specs.Order.{clear, kept, replaced}
-use Rattle.table.specs.Accepted.{Points, accepted-points, same-lengths}
+use Rattle.table.specs.Accepted.{PointsWithin, accepted-points, same-lengths}
 use Rattle.slopes.specs.Slopes.{builtSlope, builtSlopes}
 use Rattle.slopes.specs.Put.{put, length-put, put-ends}
 use Rattle.slopes.proofs.whole.build.Statement.{statement}
@@ -34,7 +34,7 @@ returns c =
 
 -- ---- accepted: nothing is written before every cause has been asked
 
-accepted : (c : tie.Else1) → let s = c .before .before .before .before .args in Points (s .knots .now) (s .values .now)
+accepted : (c : tie.Else1) → let s = c .before .before .before .before .args in PointsWithin (s .knots .now) (s .values .now)
 accepted c = accepted-points (c .if1 .left) (c .before .before .points .ensures)
 
 as-many : (c : tie.Else1) → let s = c .before .before .before .before .args in length (s .slopes .now) ≡ length (s .knots .now)

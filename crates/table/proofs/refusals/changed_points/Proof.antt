@@ -8,7 +8,7 @@ use borrow.Author.Needs.{needs}
 use Rattle.rules.specs.Refusals.{Given}
 use Rattle.rules.specs.Order.{stopped, went-on, clear}
 use Rattle.table.specs.Table.{Table, table, SameLengths, Holds}
-use Rattle.table.specs.Changed.{changedBy}
+use Rattle.table.specs.WouldBe.{changedBy}
 use Rattle.table.specs.Accepted.{same-lengths}
 use Rattle.table.specs.AfterChange.{as-counted, as-stepped, refused-nowhere, taken-there}
 use Rattle.table.proofs.refusals.changed_points.Statement.{statement}

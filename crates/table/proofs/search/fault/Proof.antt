@@ -14,7 +14,7 @@ use Rattle.integers.specs.Decided.{told, denied, asked as asked-of}
 use Rattle.integers.specs.Arguments.{same₄}
 use Rattle.cubic.specs.Piece.{unit, Monotone}
 use Rattle.rules.specs.Limits.{WidthWithin, RiseWithin}
-use Rattle.table.specs.Table.{Table, table, step, points, MonotoneAt}
+use Rattle.table.specs.Table.{Table, table, step, pointCount, MonotoneAt}
 use Rattle.table.specs.Search.{asked, as-many}
 use Rattle.table.specs.Fault.{sound-width, sound-points, sound-piece, fault-of-width, fault-of-rise, fault-of-bend}
 use Rattle.table.proofs.search.fault.Statement.{statement}
@@ -31,7 +31,7 @@ width-within-requires c κs = search needs
 abbrev given : tie.Start → Table
 given s = asked (s .args .points) (table (s .args .knots .now) (s .args .values .now) (s .args .slopes .now))
 
-here : (s : tie.Start) → s .args .i + 1 < points (given s)
+here : (s : tie.Start) → s .args .i + 1 < pointCount (given s)
 here s =
     let a = s .args in
     subst (λ (n : ℕ). a .i + 1 < n) (sym (as-many (a .points) (table (a .knots .now) (a .values .now) (a .slopes .now)))) (s .pre .1 .1)

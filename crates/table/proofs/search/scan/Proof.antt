@@ -4,7 +4,7 @@ use native.Mathlib.Omega.{arith}
 use lib.ListN.{length}
 use borrow.Author.Needs.{needs}
 use borrow.Author.Count.{below-more}
-use Rattle.table.specs.Table.{Table, table, points, Holds}
+use Rattle.table.specs.Table.{Table, table, Holds}
 use Rattle.table.specs.Search.{asked, SoundAt, is-sound}
 use Rattle.table.specs.Fault.{asked-there}
 use Rattle.table.specs.Scan.{nothing-there, fault-there}

@@ -4,7 +4,7 @@ use mathlib.Core.List.{List, [], _∷_}
 use Prim.Native.Nat.{ℕ, _<_}
 use lib.ListN.{set}
 use Rattle.table.specs.declared.changed.Change.{Change}
-use Rattle.table.specs.Table.{Table, table, points, Holds}
+use Rattle.table.specs.Table.{Table, table, pointCount, Holds}
 
 module _ (c : Change) (t : Table) where
   -- "the points as they would be after the change": the new knot and the new value at the place with this number, in each list that has one, and all else as it was.
@@ -16,7 +16,7 @@ module _ (c : Change) (t : Table) where
   -- be, as no length changes (`as-counted` of `AfterChange.antt`). 5 is not in the order. Where 7 is asked, 1 has been, so that the knots are as many as the points.
   pub data HoldsAfter : ℕ → ℕ → Type 0 where
     of-points : {number place : ℕ} → Holds changedBy number place → HoldsAfter number place
-    no-such-point : (c .point < points t → ⊥) → HoldsAfter 7 0
+    no-such-point : (c .point < pointCount t → ⊥) → HoldsAfter 7 0
 
 -- "change of a point: 1, 2, 7, 3, 4"
 abbrev pub changeOrder : List ℕ
