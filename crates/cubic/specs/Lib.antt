@@ -13,3 +13,4 @@ pub mod Small
 pub mod Built
 pub mod Inner
 pub mod Fair
+pub mod Decided
