@@ -56,6 +56,9 @@ fails-or-not = ⊎-elim (λ a. inr (λ f. f a)) inl
 pub ≤ℤ-or-not : (x y : ℤ) → (x ≤ℤ y) ⊎ (x ≤ℤ y → ⊥)
 ≤ℤ-or-not x y = ⊎-elim inl (λ l. inr (λ h. clashℤ l h)) (≤ℤ-or-<ℤ x y)
 
+pub <ℤ-or-not : (x y : ℤ) → (x <ℤ y) ⊎ (x <ℤ y → ⊥)
+<ℤ-or-not x y = ⊎-elim (λ h. inr (λ l. clashℤ l h)) inl (≤ℤ-or-<ℤ y x)
+
 pub ≡ℤ-or-not : (x y : ℤ) → (x ≡ y) ⊎ (x ≡ y → ⊥)
 ≡ℤ-or-not x y = alike-or-not (λ w. ≤ℤ-antisym (w .0) (w .1)) (λ e. (same e, same (sym e))) (both-or-not (≤ℤ-or-not x y) (≤ℤ-or-not y x))
   where

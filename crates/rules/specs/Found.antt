@@ -1,12 +1,11 @@
 -- An order of causes always gives a number and a place, where each cause can be searched for: no promise made of `Given` is empty.
-use mathlib.Core.Path.{_≡_, subst}
+use mathlib.Core.Path.{_≡_, refl, subst}
 use mathlib.Core.List.{List, [], _∷_, _++_}
 use mathlib.Core.Logic.{_⊎_, inl, inr, ⊎-elim}
 use Prim.Native.Nat.{ℕ, zero, suc, _<_}
 use native.Mathlib.Nat.{eq-or-lt-of-le}
 use native.Mathlib.Omega.{arith}
-use Rattle.rules.specs.Refusals.{Given, done, refused, passed}
-use Rattle.rules.specs.Order.{Same, carried}
+use Rattle.rules.specs.Refusals.{Given, done, refused, passed, Answered, nothing, answered}
 
 -- ---- the first place at which something holds
 
@@ -62,6 +61,16 @@ module _ {H : ℕ → ℕ → Type 0} where
       on (refused h e) f = record { number = _; place = _; given = refused h e }
       on (passed e g) f = let s = on g (λ k. f (passed e k)) in record { number = s .number; place = s .place; given = passed e (s .given) }
 
--- of causes that hold alike
-pub found-alike : {H K : ℕ → ℕ → Type 0} {order : List ℕ} → Same H K order → SomeGiven H order → SomeGiven K order
-found-alike s g = record { number = g .number; place = g .place; given = carried s (g .given) }
+-- of other causes that give the same
+pub found-as : {H K : ℕ → ℕ → Type 0} {order : List ℕ} → ((n p : ℕ) → Given H order n p → Given K order n p) → SomeGiven H order → SomeGiven K order
+found-as f s = record { number = s .number; place = s .place; given = f _ _ (s .given) }
+
+-- ---- what a call answers beside its refusal
+
+pub record SomeAnswered {A : Type 0} (Right : A → Type 0) (otherwise : A) (number : ℕ) : Type 0 where
+  pub answer : A
+  pub right : Answered Right otherwise number answer
+
+pub answered-beside : {A : Type 0} {Right : A → Type 0} {otherwise : A} (number : ℕ) → (number ≡ 0 → (a : A) × Right a) → SomeAnswered Right otherwise number
+answered-beside zero f = let a = f refl in record { answer = a .0; right = answered (a .1) }
+answered-beside (suc number) f = record { answer = _; right = nothing }

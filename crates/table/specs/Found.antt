@@ -1,7 +1,7 @@
 -- Every table has an answer to a build and to a table check, and every change of one has an answer: each cause can be searched for.
 use mathlib.Core.Path.{_≡_, refl}
 use mathlib.Core.List.{[], _∷_}
-use mathlib.Core.Logic.{_⊎_}
+use mathlib.Core.Logic.{_⊎_, ⊎-elim}
 use Prim.Native.Nat.{ℕ, _+_, _-_, _<_}
 use native.Mathlib.Decide.{ℕ-discrete, decLe, decLt}
 use native.Mathlib.Omega.{arith}
@@ -10,11 +10,12 @@ use Rattle.integers.specs.Decided.{or-not, alike-or-not, both-or-not, fails-or-
 use Rattle.cubic.specs.Piece.{unit}
 use Rattle.cubic.specs.Decided.{monotone-or-not}
 use Rattle.rules.specs.Limits.{CountWithin, WidthWithin, RiseWithin}
-use Rattle.rules.specs.Found.{Searched, searched-at-0, searched-below, SomeGiven, none, also, found, found-on, found-alike}
+use Rattle.rules.specs.Found.{Searched, searched-at-0, searched-below, SomeGiven, none, also, found, found-on, found-as}
 use Rattle.table.specs.declared.changed.Change.{Change}
 use Rattle.table.specs.Table.{Table, step, points, SameLengths, MonotoneAt, Holds, lengths-differ, too-few-or-many, width-outside, rise-outside, not-monotone, buildOrder, checkOrder}
-use Rattle.table.specs.Changed.{changedBy, HoldsAfter, of-points, no-such-point, changeOrder}
-use Rattle.table.specs.AfterChange.{beside-7}
+use Rattle.table.specs.Changed.{changedBy, HoldsAfter, changeOrder}
+use Rattle.table.specs.Accepted.{at-most}
+use Rattle.table.specs.AfterChange.{as-counted, as-stepped, refused-nowhere, taken-there}
 
 module _ (t : Table) where
   -- 1 and 2, at place 0
@@ -84,19 +85,10 @@ module _ (t : Table) where
   every-table-has-an-answer-to-a-check = found-on every-table-has-an-answer-to-a-build (λ _. found (also bends-searched none))
 
 module _ (c : Change) (t : Table) where
-  -- 7, at place 0
-  point-searched : Searched (HoldsAfter c t 7)
-  point-searched = searched-at-0 only (alike-or-not no-such-point nowhere (fails-or-not (or-not (decLt (c .point) (points t)))))
-    where
-      only : (p : ℕ) → HoldsAfter c t 7 p → p ≡ 0
-      only p (of-points h) = elim h [ ]
-      only p (no-such-point f) = refl
-
-      nowhere : HoldsAfter c t 7 0 → c .point < points t → ⊥
-      nowhere (of-points h) = elim h [ ]
-      nowhere (no-such-point f) = f
+  point-given : SomeGiven (HoldsAfter c t) (7 ∷ [])
+  point-given =
+      ⊎-elim (λ l. record { number = 0; place = 0; given = taken-there c t l }) (λ f. record { number = 7; place = 0; given = refused-nowhere c t (at-most f) })
+      (or-not (decLt (c .point) (points t)))
 
   pub every-change-has-an-answer : SomeGiven (HoldsAfter c t) changeOrder
-  every-change-has-an-answer =
-      found-on (found-alike (beside-7 c t (1 ∷ 2 ∷ []) tt) (counted (changedBy c t)))
-      (λ _. found-on (found (also point-searched none)) (λ _. found-alike (beside-7 c t (3 ∷ 4 ∷ []) tt) (stepped (changedBy c t))))
+  every-change-has-an-answer = found-on (found-as (λ _ _. as-counted c t) (counted t)) (λ _. found-on point-given (λ _. found-as (λ _ _. as-stepped c t) (stepped (changedBy c t))))
