@@ -1,14 +1,14 @@
 -- Whether a piece is monotone can always be told, by the short test.
-use mathlib.Core.Logic.{_⊎_, inl, inr, ⊎-elim}
+use mathlib.Core.Logic.{_⊎_, ⊎-elim}
 use lib.IntN.{ℤ, pos, negℤ, _*ℤ_}
 use lib.Signed.{_≤ℤ_, _<ℤ_}
 use Rattle.integers.specs.Order.{≤ℤ-or-<ℤ}
 use Rattle.integers.specs.Signs.{by-sign}
 use Rattle.integers.specs.Decided.{alike-or-not, both-or-not, ≤ℤ-or-not, ≡ℤ-or-not}
 use Rattle.cubic.specs.Piece.{NeverAgainst, Monotone}
-use Rattle.cubic.specs.Slope.{over, Inside}
+use Rattle.cubic.specs.Slope.{over}
 use Rattle.cubic.specs.Never.{start-not-against, end-not-against}
-use Rattle.cubic.specs.Test.{Short, line, oval, short-accepts, in-oval}
+use Rattle.cubic.specs.Test.{line, oval, short-accepts, in-oval}
 use Rattle.cubic.specs.Monotone.{monotone-rising, monotone-falling, monotone-level}
 
 never-against-or-not : (Z a b : ℤ) → NeverAgainst Z a b ⊎ (NeverAgainst Z a b → ⊥)

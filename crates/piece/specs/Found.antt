@@ -3,7 +3,7 @@ use mathlib.Core.Logic.{⊎-elim}
 use Prim.Native.Nat.{zero, suc}
 use lib.IntN.{ℤ, pos, negsuc}
 use Rattle.integers.specs.Decided.{between-or-not}
-use Rattle.cubic.specs.Piece.{unit, Monotone}
+use Rattle.cubic.specs.Piece.{unit}
 use Rattle.cubic.specs.Decided.{monotone-or-not}
 use Rattle.rules.specs.Limits.{WidthWithin, RiseWithin}
 use Rattle.piece.specs.Promise.{answer, answerOf, leaning, Judged, width-refused, rise-refused, monotone, bent}

@@ -7,7 +7,6 @@ use native.Mathlib.Decide.{ℕ-discrete, decLe, decLt}
 use native.Mathlib.Omega.{arith}
 use lib.ListN.{length}
 use Rattle.integers.specs.Decided.{or-not, alike-or-not, both-or-not, fails-or-not, between-or-not}
-use Rattle.cubic.specs.Piece.{unit}
 use Rattle.cubic.specs.Decided.{monotone-or-not}
 use Rattle.rules.specs.Limits.{CountWithin, WidthWithin, RiseWithin}
 use Rattle.rules.specs.Found.{Searched, searched-at-0, searched-below, SomeGiven, none, also, found, found-on, found-as}
