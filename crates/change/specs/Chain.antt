@@ -10,12 +10,25 @@ use Rattle.table.specs.Accepted.{PointsWithin, accepted-points, points-accepted
 use Rattle.table.specs.AfterChange.{accepted-then}
 use Rattle.slopes.specs.Slopes.{Built}
 use Rattle.change.specs.Change.{Changed}
+use Rattle.change.specs.Found.{every-change-leaves-a-table}
 use Rattle.change.specs.StaysBuilt.{AllBuilt, all-are-then-as-built}
 
 -- A list of changes, made one after another: each of the table that the one before it left, with whatever it answers.
 pub data Chain : List Change → (before after : Table) → Type 0 where
   none : {t : Table} → Chain [] t t
   next : {c : Change} {cs : List Change} {t u v : Table} {number place : ℕ} → Changed c t u number place → Chain cs u v → Chain (c ∷ cs) t v
+
+-- Every list of changes can be made, of any table.
+pub record SomeChain (cs : List Change) (before : Table) : Type 0 where
+  pub after : Table
+  pub chain : Chain cs before after
+
+pub every-list-of-changes-has-a-chain : (cs : List Change) (before : Table) → SomeChain cs before
+every-list-of-changes-has-a-chain [] t = record { after = t; chain = none }
+every-list-of-changes-has-a-chain (c ∷ cs) t =
+    let first = every-change-leaves-a-table c t in
+    let others = every-list-of-changes-has-a-chain cs (first .after) in
+    record { after = others .after; chain = next (first .changed) (others .chain) }
 
 -- No change of a list is left out: the last is made of the table that the others left.
 pub record MadeLast (cs : List Change) (c : Change) (before after : Table) : Type 0 where

@@ -3,6 +3,7 @@ pub mod Chain
 pub mod Change
 pub mod Determined
 pub mod Figures
+pub mod Found
 pub mod RefusedAsABuild
 pub mod StaysBuilt
 pub mod WhatIsWritten

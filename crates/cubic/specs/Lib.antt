@@ -13,3 +13,4 @@ pub mod Small
 pub mod Box
 pub mod Inner
 pub mod Fair
+pub mod Decided

@@ -6,3 +6,4 @@ pub mod AtEachKnot
 pub mod FitsThirtyTwoBits
 pub mod Determined
 pub mod Figures
+pub mod Found

@@ -4,3 +4,4 @@ pub mod Refused
 pub mod Determined
 pub mod TheSameCurve
 pub mod Figures
+pub mod Found

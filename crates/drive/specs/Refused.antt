@@ -25,9 +25,12 @@ module _ {t : Table} {x : ℤ} where
   pub as-evaluated : {n p : ℕ} → Given (HoldsAt t x) evaluationOrder n p → Given (HoldsFor t x) evaluationOrder n p
   as-evaluated = carried same-causes
 
+  pub evaluated-too : {n p : ℕ} → Given (HoldsFor t x) evaluationOrder n p → Given (HoldsAt t x) evaluationOrder n p
+  evaluated-too = carried (other-way same-causes)
+
   -- what is known where nothing is refused
   pub accepted-for : {n p : ℕ} → n ≡ 0 → Given (HoldsFor t x) floatOrder n p → Accepted t
-  accepted-for e g = accepted-at refl (carried (other-way same-causes) (front evaluationOrder (8 ∷ []) e g))
+  accepted-for e g = accepted-at refl (evaluated-too (front evaluationOrder (8 ∷ []) e g))
 
   -- the position's piece, of which there is one
   module _ {i : ℕ} (a : Accepted t) (b : Belongs (t .knots) x i) where

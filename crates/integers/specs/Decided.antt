@@ -1,5 +1,5 @@
 -- How a bool that says whether a statement holds is made and used.
-use mathlib.Core.Path.{_≡_, refl, subst}
+use mathlib.Core.Path.{_≡_, refl, sym, subst}
 use mathlib.Core.Bool.{Bool, true, false, not}
 use mathlib.Core.Logic.{_⊎_, inl, inr, ⊎-elim}
 use Prim.Native.Nat.{ℕ}
@@ -34,6 +34,41 @@ one-decision (holds a) (fails g) = absurd (g a)
 one-decision (fails f) (holds d) = absurd (f d)
 one-decision (fails f) (fails g) = refl
 
+-- ---- what holds or not
+
+pub or-not : {A : Type 0} → Dec A → A ⊎ (A → ⊥)
+or-not (yes a) = inl a
+or-not (no f) = inr f
+
+-- of a statement, of one that says the same
+pub alike-or-not : {A B : Type 0} → (A → B) → (B → A) → A ⊎ (A → ⊥) → B ⊎ (B → ⊥)
+alike-or-not f g = ⊎-elim (λ a. inl (f a)) (λ h. inr (λ b. h (g b)))
+
+pub both-or-not : {A B : Type 0} → A ⊎ (A → ⊥) → B ⊎ (B → ⊥) → (A × B) ⊎ (A × B → ⊥)
+both-or-not (inl a) (inl b) = inl (a, b)
+both-or-not (inl a) (inr g) = inr (λ w. g (w .1))
+both-or-not (inr f) d = inr (λ w. f (w .0))
+
+-- and of what it is for one not to hold
+pub fails-or-not : {A : Type 0} → A ⊎ (A → ⊥) → (A → ⊥) ⊎ ((A → ⊥) → ⊥)
+fails-or-not = ⊎-elim (λ a. inr (λ f. f a)) inl
+
+pub ≤ℤ-or-not : (x y : ℤ) → (x ≤ℤ y) ⊎ (x ≤ℤ y → ⊥)
+≤ℤ-or-not x y = ⊎-elim inl (λ l. inr (λ h. clashℤ l h)) (≤ℤ-or-<ℤ x y)
+
+pub <ℤ-or-not : (x y : ℤ) → (x <ℤ y) ⊎ (x <ℤ y → ⊥)
+<ℤ-or-not x y = ⊎-elim (λ h. inr (λ l. clashℤ l h)) inl (≤ℤ-or-<ℤ y x)
+
+pub ≡ℤ-or-not : (x y : ℤ) → (x ≡ y) ⊎ (x ≡ y → ⊥)
+≡ℤ-or-not x y = alike-or-not (λ w. ≤ℤ-antisym (w .0) (w .1)) (λ e. (same e, same (sym e))) (both-or-not (≤ℤ-or-not x y) (≤ℤ-or-not y x))
+  where
+    same : {x y : ℤ} → x ≡ y → x ≤ℤ y
+    same {x} e = subst (λ (v : ℤ). x ≤ℤ v) e (≤ℤ-refl x)
+
+pub between-or-not : (l x h : ℤ) → Between l x h ⊎ (Between l x h → ⊥)
+between-or-not l x h =
+    alike-or-not (λ w. record { low = w .0; high = w .1 }) (λ w. (w .low, w .high)) (both-or-not (≤ℤ-or-not l x) (≤ℤ-or-not x h))
+
 -- ---- what holds where it cannot fail
 
 pub stable : {A : Type 0} → A ⊎ (A → ⊥) → ((A → ⊥) → ⊥) → A
@@ -41,20 +76,12 @@ stable (inl a) f = a
 stable (inr g) f = absurd (f g)
 
 pub ≤ℤ-stable : {x y : ℤ} → ((x ≤ℤ y → ⊥) → ⊥) → x ≤ℤ y
-≤ℤ-stable {x} {y} f = ⊎-elim (λ h. h) (λ l. absurd (f (λ h. clashℤ l h))) (≤ℤ-or-<ℤ x y)
+≤ℤ-stable {x} {y} = stable (≤ℤ-or-not x y)
 
 pub ≡ℤ-stable : {x y : ℤ} → ((x ≡ y → ⊥) → ⊥) → x ≡ y
-≡ℤ-stable {x} {y} f =
-    ≤ℤ-antisym (≤ℤ-stable (λ g. f (λ e. g (subst (λ (v : ℤ). x ≤ℤ v) e (≤ℤ-refl x)))))
-    (≤ℤ-stable (λ g. f (λ e. g (subst (λ (v : ℤ). v ≤ℤ x) e (≤ℤ-refl x)))))
+≡ℤ-stable {x} {y} = stable (≡ℤ-or-not x y)
 
-pub between-or-not : (l x h : ℤ) → Between l x h ⊎ (Between l x h → ⊥)
-between-or-not l x h = go (≤ℤ-or-<ℤ l x) (≤ℤ-or-<ℤ x h)
-  where
-    go : (l ≤ℤ x) ⊎ (x <ℤ l) → (x ≤ℤ h) ⊎ (h <ℤ x) → Between l x h ⊎ (Between l x h → ⊥)
-    go (inl a) (inl b) = inl (record { low = a; high = b })
-    go (inl a) (inr b) = inr (λ (w : Between l x h). clashℤ b (w .high))
-    go (inr a) b = inr (λ (w : Between l x h). clashℤ a (w .low))
+-- ---- sizes
 
 -- a number is beyond M, on either side of 0, exactly where it is not between −M and M
 pub beyond : (M : ℕ) {x : ℤ} {b : Bool} → Decided (Between (negℤ (pos M)) x (pos M)) b → Decided (pos M <ℤ magnitude x) (not b)

@@ -3,3 +3,4 @@ pub mod Determined
 pub mod Leaning
 pub mod Sizes
 pub mod Cubic
+pub mod Found

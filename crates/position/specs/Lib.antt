@@ -4,3 +4,4 @@ pub mod Refused
 pub mod Determined
 pub mod Spot
 pub mod Held
+pub mod Found

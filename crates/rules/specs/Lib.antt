@@ -1,3 +1,4 @@
+pub mod Found
 pub mod Known
 pub mod Limits
 pub mod Order

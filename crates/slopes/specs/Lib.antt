@@ -6,3 +6,4 @@ pub mod Figures
 pub mod Put
 pub mod Sizes
 pub mod Slopes
+pub mod Found

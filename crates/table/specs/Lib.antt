@@ -6,3 +6,4 @@ pub mod Table
 pub mod Tested
 pub mod Fault
 pub mod Scan
+pub mod Found
