@@ -28,10 +28,10 @@ use Rattle.table.specs.Accepted.{Accepted}
 use Rattle.position.specs.Position.{evaluationOrder}
 use Rattle.position.specs.Pieces.{within-list}
 use Rattle.position.specs.Refused.{accepted-at}
-use Rattle.position.specs.Spot.{Inside, inside-accepted}
+use Rattle.position.specs.Spot.{InPiece, inside-accepted}
 use Rattle.position.specs.Found.{SomePiece, every-position-has-an-answer, piece-at}
 use Rattle.piece.specs.Cubic.{Coefficients, by-coefficients}
-use Rattle.drive.specs.Drive.{Told, dwell, move, ToldIn, dwells, moves, ToldAt, HoldsFor, too-large, floatOrder, resting, Driving}
+use Rattle.drive.specs.Drive.{Telling, dwell, move, ToldIn, dwells, moves, ToldAt, HoldsFor, too-large, floatOrder, resting, Driving}
 use Rattle.drive.specs.Size.{steps-exact}
 use Rattle.drive.specs.Refused.{as-evaluated, evaluated-too, accepted-for, refused-large, taken-small}
 
@@ -50,7 +50,7 @@ module _ (t : Table) (x : ℤ) where
 
 -- ---- what is told
 
-module _ {left h z m n t : ℤ} (o : Inside h z m n t) (fits : Within (2 ^ 53) left) (small : TooLarge h z → ⊥) where
+module _ {left h z m n t : ℤ} (o : InPiece h z m n t) (fits : Within (2 ^ 53) left) (small : TooLarge h z → ⊥) where
   above-within : Within (2 ^ 53) (numerator unit h z m n t)
   above-within =
       let c : Coefficients unit h z m n _ _ _ = record { first-is = refl; second-is = refl; third-is = refl } in
@@ -59,7 +59,7 @@ module _ {left h z m n t : ℤ} (o : Inside h z m n t) (fits : Within (2 ^ 53) l
   below-within : Within (2 ^ 53) (denominator unit h)
   below-within = sized (known-width h (o .width) ∷ []) (search code depth 30 fits 9000) tt
 
-  told-in : (a : Told) × ToldIn left h z m n t a
+  told-in : (a : Telling) × ToldIn left h z m n t a
   told-in =
       ⊎-elim (λ e. (dwell (ofInt binary64 left), dwells e (cast-exactly binary64 left fits)))
       (λ f. (move _ _ _, moves f (cast-exactly binary64 left fits) (cast-exactly binary64 _ above-within) (cast-exactly binary64 _ below-within))) (≡ℤ-or-not z (pos 0))
@@ -68,7 +68,7 @@ wide : (v : ℤ) → SFits w32 v → Within (2 ^ 53) v
 wide v f = record { size = le-trans (natAbs-le v (f .sfits)) (lit≤ tt) }
 
 module _ (t : Table) (x : ℤ) (fits : (i : ℕ) → i < length (t .values) → SFits w32 (entry (t .values) i)) where
-  told-at : {n p : ℕ} → n ≡ 0 → Given (HoldsFor t x) floatOrder n p → (a : Told) × ToldAt t x a
+  told-at : {n p : ℕ} → n ≡ 0 → Given (HoldsFor t x) floatOrder n p → (a : Telling) × ToldAt t x a
   told-at e g =
       let a = accepted-for e g in
       let i = piece-at t x refl (evaluated-too (front evaluationOrder (8 ∷ []) e g)) in
@@ -80,7 +80,7 @@ module _ (t : Table) (x : ℤ) (fits : (i : ℕ) → i < length (t .values) → 
 pub record SomeDriving (t : Table) (x : ℤ) : Type 0 where
   pub number : ℕ
   pub place : ℕ
-  pub told : Told
+  pub told : Telling
   pub driving : Driving t x number place told
 
 pub every-float-answer-of-32-bit-values-tells : (t : Table) (x : ℤ) → ((i : ℕ) → i < length (t .values) → SFits w32 (entry (t .values) i)) → SomeDriving t x

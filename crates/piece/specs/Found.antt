@@ -6,16 +6,16 @@ use Rattle.integers.specs.Decided.{between-or-not}
 use Rattle.cubic.specs.Piece.{unit}
 use Rattle.cubic.specs.Decided.{monotone-or-not}
 use Rattle.rules.specs.Limits.{WidthWithin, RiseWithin}
-use Rattle.piece.specs.Promise.{answer, answerOf, leaning, Judged, width-refused, rise-refused, monotone, bent}
+use Rattle.piece.specs.Promise.{ruling, rulingOf, leaning, Judged, width-refused, rise-refused, monotone, bent}
 use Rattle.piece.specs.declared.Verdict.{Verdict}
 use Rattle.piece.specs.declared.Verdict.the-variants.{Rising, Falling, Flat, Bends, Refused}
 
 pub record SomeVerdict (h z m n : ℤ) : Type 0 where
   pub verdict : Verdict
-  pub judged : Judged h z m n (answerOf verdict)
+  pub judged : Judged h z m n (rulingOf verdict)
 
 -- a monotone one is called by the sign of its rise
-called : {h m n : ℤ} (z : ℤ) → Judged h z m n (answer 0 0 (leaning z)) → SomeVerdict h z m n
+called : {h m n : ℤ} (z : ℤ) → Judged h z m n (ruling 0 0 (leaning z)) → SomeVerdict h z m n
 called (pos zero) j = record { verdict = Flat; judged = j }
 called (pos (suc k)) j = record { verdict = Rising; judged = j }
 called (negsuc k) j = record { verdict = Falling; judged = j }

@@ -11,8 +11,8 @@ use Rattle.cubic.specs.Decided.{monotone-or-not}
 use Rattle.rules.specs.Limits.{CountWithin, WidthWithin, RiseWithin}
 use Rattle.rules.specs.Found.{Searched, searched-at-0, searched-below, SomeGiven, none, also, found, found-on, found-as}
 use Rattle.table.specs.declared.changed.Change.{Change}
-use Rattle.table.specs.Table.{Table, step, points, SameLengths, MonotoneAt, Holds, lengths-differ, too-few-or-many, width-outside, rise-outside, not-monotone, buildOrder, checkOrder}
-use Rattle.table.specs.Changed.{changedBy, HoldsAfter, changeOrder}
+use Rattle.table.specs.Table.{Table, step, pointCount, SameLengths, MonotoneAt, Holds, lengths-differ, too-few-or-many, width-outside, rise-outside, not-monotone, buildOrder, checkOrder}
+use Rattle.table.specs.WouldBe.{changedBy, HoldsAfter, changeOrder}
 use Rattle.table.specs.Accepted.{at-most}
 use Rattle.table.specs.AfterChange.{as-counted, as-stepped, refused-nowhere, taken-there}
 
@@ -21,7 +21,7 @@ module _ (t : Table) where
   same-lengths-or-not : SameLengths t ⊎ (SameLengths t → ⊥)
   same-lengths-or-not =
       alike-or-not (λ w. record { values = w .0; slopes = w .1 }) (λ s. (s .values, s .slopes))
-      (both-or-not (or-not (ℕ-discrete (length (t .values)) (points t))) (or-not (ℕ-discrete (length (t .slopes)) (points t))))
+      (both-or-not (or-not (ℕ-discrete (length (t .values)) (pointCount t))) (or-not (ℕ-discrete (length (t .slopes)) (pointCount t))))
 
   lengths-searched : Searched (Holds t 1)
   lengths-searched = searched-at-0 only (alike-or-not lengths-differ differ (fails-or-not same-lengths-or-not))
@@ -32,9 +32,9 @@ module _ (t : Table) where
       differ : Holds t 1 0 → SameLengths t → ⊥
       differ (lengths-differ f) = f
 
-  count-or-not : CountWithin (points t) ⊎ (CountWithin (points t) → ⊥)
+  count-or-not : CountWithin (pointCount t) ⊎ (CountWithin (pointCount t) → ⊥)
   count-or-not =
-      alike-or-not (λ w. record { low = w .0; high = w .1 }) (λ c. (c .low, c .high)) (both-or-not (or-not (decLe 2 (points t))) (or-not (decLe (points t) 1024)))
+      alike-or-not (λ w. record { low = w .0; high = w .1 }) (λ c. (c .low, c .high)) (both-or-not (or-not (decLe 2 (pointCount t))) (or-not (decLe (pointCount t) 1024)))
 
   count-searched : Searched (Holds t 2)
   count-searched = searched-at-0 only (alike-or-not too-few-or-many outside (fails-or-not count-or-not))
@@ -42,33 +42,33 @@ module _ (t : Table) where
       only : (p : ℕ) → Holds t 2 p → p ≡ 0
       only p (too-few-or-many f) = refl
 
-      outside : Holds t 2 0 → CountWithin (points t) → ⊥
+      outside : Holds t 2 0 → CountWithin (pointCount t) → ⊥
       outside (too-few-or-many f) = f
 
   -- 3, 4 and 5, at the pieces that are there
   module _ {c : ℕ} (Sound : ℕ → Type 0) where
-    pieces-searched : ((i : ℕ) → Sound i ⊎ (Sound i → ⊥)) → ((i : ℕ) → i + 1 < points t → (Sound i → ⊥) → Holds t c i)
-        → ((i : ℕ) → Holds t c i → (i + 1 < points t) × (Sound i → ⊥)) → Searched (Holds t c)
+    pieces-searched : ((i : ℕ) → Sound i ⊎ (Sound i → ⊥)) → ((i : ℕ) → i + 1 < pointCount t → (Sound i → ⊥) → Holds t c i)
+        → ((i : ℕ) → Holds t c i → (i + 1 < pointCount t) × (Sound i → ⊥)) → Searched (Holds t c)
     pieces-searched tell faulty fault =
-        searched-below (points t - 1) (λ i h. omega (arith, fault i h .0))
+        searched-below (pointCount t - 1) (λ i h. omega (arith, fault i h .0))
         (λ i l. alike-or-not (faulty i (omega (arith, l))) (λ h. fault i h .1) (fails-or-not (tell i)))
 
   widths-searched : Searched (Holds t 3)
   widths-searched = pieces-searched (λ i. WidthWithin (step (t .knots) i)) (λ i. between-or-not _ _ _) (λ i. width-outside) fault
     where
-      fault : (i : ℕ) → Holds t 3 i → (i + 1 < points t) × (WidthWithin (step (t .knots) i) → ⊥)
+      fault : (i : ℕ) → Holds t 3 i → (i + 1 < pointCount t) × (WidthWithin (step (t .knots) i) → ⊥)
       fault i (width-outside l f) = (l, f)
 
   rises-searched : Searched (Holds t 4)
   rises-searched = pieces-searched (λ i. RiseWithin (step (t .values) i)) (λ i. between-or-not _ _ _) (λ i. rise-outside) fault
     where
-      fault : (i : ℕ) → Holds t 4 i → (i + 1 < points t) × (RiseWithin (step (t .values) i) → ⊥)
+      fault : (i : ℕ) → Holds t 4 i → (i + 1 < pointCount t) × (RiseWithin (step (t .values) i) → ⊥)
       fault i (rise-outside l f) = (l, f)
 
   bends-searched : Searched (Holds t 5)
   bends-searched = pieces-searched (MonotoneAt t) (λ i. monotone-or-not _ _ _ _ _) (λ i. not-monotone) fault
     where
-      fault : (i : ℕ) → Holds t 5 i → (i + 1 < points t) × (MonotoneAt t i → ⊥)
+      fault : (i : ℕ) → Holds t 5 i → (i + 1 < pointCount t) × (MonotoneAt t i → ⊥)
       fault i (not-monotone l f) = (l, f)
 
   counted : SomeGiven (Holds t) (1 ∷ 2 ∷ [])
@@ -87,7 +87,7 @@ module _ (c : Change) (t : Table) where
   point-given : SomeGiven (HoldsAfter c t) (7 ∷ [])
   point-given =
       ⊎-elim (λ l. record { number = 0; place = 0; given = taken-there c t l }) (λ f. record { number = 7; place = 0; given = refused-nowhere c t (at-most f) })
-      (or-not (decLt (c .point) (points t)))
+      (or-not (decLt (c .point) (pointCount t)))
 
   pub every-change-has-an-answer : SomeGiven (HoldsAfter c t) changeOrder
   every-change-has-an-answer = found-on (found-as (λ _ _. as-counted c t) (counted t)) (λ _. found-on point-given (λ _. found-as (λ _ _. as-stepped c t) (stepped (changedBy c t))))
