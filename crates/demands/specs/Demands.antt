@@ -13,6 +13,8 @@
 --   Holds, HoldsAt, HoldsFor,     the cause with a number holds at a place: of a table, at a position, for a float answer, and of the points as they would be after
 --     HoldsAfter                  a change (`Table.antt` and `WouldBe.antt` of `table`, `Position.antt` of `position`, `Drive.antt` of `drive`)
 --   WidthWithin, RiseWithin       the limits of document 01 (`Limits.antt` of `rules`)
+--   SFits w32 x                   x is a signed number of 32 bits
+--   (o : A) × B                   there is an o of which B holds
 --   Belongs ks x i                the position x belongs to piece i: a knot to the piece that starts there, and the last one to the last piece (`Position.antt`)
 --   Near k i                      i is k − 1, k or k + 1 (`Beside.antt` of `change`)
 --   slopeAt, riseAt, unit         the slope of a piece's cubic and the cubic, at a fraction of the width, and 256 (`Piece.antt` of `cubic`)
@@ -25,6 +27,8 @@ use Prim.Native.Nat.{ℕ, _+_, _<_, _≤_}
 use lib.IntN.{ℤ, pos, negsuc, _+ℤ_, _-ℤ_, _*ℤ_}
 use lib.Signed.{_≤ℤ_, _<ℤ_}
 use lib.ListN.{length}
+use mir.Syntax.{w32}
+use mir.Val.{SFits}
 use Rattle.integers.specs.Promise.{Floor, magnitude, withSign}
 use Rattle.cubic.specs.Piece.{unit, slopeAt, riseAt}
 use Rattle.rules.specs.Limits.{WidthWithin, RiseWithin}
@@ -160,12 +164,26 @@ pub data LooksAt (t : Table) : Call → Type 0 where
   its-changed-points : {c : Change} {before : Table} → c .point < length (before .knots) → changedBy c before ≡ t → LooksAt t (changed-points c before)
   a-change : {made : List Change} {c : Change} {before : Table} → c .point < length (before .knots) → changedBy c before ≡ t → LooksAt t (point made c before)
 
+-- What may come in: lists of any length that hold any numbers. For a float answer the values are 32-bit ones, as document 01 has them: a float does not hold every number.
+abbrev pub MayComeIn : Call → Type 0
+MayComeIn (float-answer t x) = (i : ℕ) → i < length (t .values) → SFits w32 (entry (t .values) i)
+MayComeIn (judge h z m n) = Unit
+MayComeIn (points t) = Unit
+MayComeIn (build t) = Unit
+MayComeIn (check t) = Unit
+MayComeIn (locate t x) = Unit
+MayComeIn (evaluate t x) = Unit
+MayComeIn (changed-points c t) = Unit
+MayComeIn (point made c t) = Unit
+
 pub record Demand1 (I : Implementation) : Type 0 where
-  -- "Any points, slopes, positions and edits may come in, from any list of any length. Nothing traps, nothing is computed from a wrapped number,"
+  -- "Any points, slopes, positions and edits may come in, from any list of any length."
+  pub any-may-come-in : (call : Call) → MayComeIn call → (o : Outcome call) × I .May call o
+  -- "Nothing traps, nothing is computed from a wrapped number,"
   --
-  -- Lists here are of any length and hold any numbers. That a call ends, that no step of it traps and that no sum, difference, product, negation or cast leaves its type is
-  -- nothing that an answer could show: the prover shows it of every function before it is compiled. What an answer can show is the sum that the label on the cabinet
-  -- speaks of: counts at opposite ends of 32 bits are refused, by whatever call looks at them or would put them there.
+  -- That a call ends, that no step of it traps and that no sum, difference, product, negation or cast leaves its type is nothing that an answer could show: the prover shows
+  -- it of every function before it is compiled. What an answer can show is the sum that the label on the cabinet speaks of: counts at opposite ends of 32 bits are refused, by
+  -- whatever call looks at them or would put them there.
   pub counts-at-opposite-ends-are-refused : {v w m n : ℤ} {call : Call} {o : Outcome call} → LooksAt (opposite-ends v w m n) call → I .May call o → (o .number ≡ 3) × (o .place ≡ 0)
   -- "and nobody is asked to have tested first."
   pub nobody-is-asked : (call : Call) → I .Asks call

@@ -1,23 +1,31 @@
--- What our functions promise, in the words of their definitions, for every call at once. Both our implementations keep it: for each call the contract is that promise.
+-- What our functions promise, in the words of their definitions, for every call at once. Both our implementations keep just that: for each call the contract is that
+-- promise, which asks nothing of the caller.
+use mathlib.Core.Bool.{false}
 use mathlib.Core.Path.{_≡_, refl, sym, subst}
 use Prim.Native.Nat.{ℕ, zero, suc}
 use native.Mathlib.Omega.{arith}
-use lib.IntN.{ℤ}
-use lib.Ieee.{Float}
+use lib.Dec.{lit≤}
+use lib.IntN.{ℤ, pos, negsuc}
+use lib.Ieee.{Float, fin, binary64, ofInt}
+use Rattle.floats.specs.Exactly.{plus-zero, cast-exactly}
 use Rattle.rules.specs.declared.Refusal.{Refusal}
 use Rattle.rules.specs.Refusals.{Given}
 use Rattle.table.specs.Table.{Table, Holds, buildOrder, checkOrder}
 use Rattle.table.specs.WouldBe.{HoldsAfter, changeOrder}
-use Rattle.piece.specs.Promise.{Finding, rising, falling, flat, bends, none, ruling, Judged}
+use Rattle.piece.specs.declared.Verdict.{Verdict}
+use Rattle.piece.specs.declared.Verdict.the-variants.{Rising, Falling, Flat, Bends, Refused}
+use Rattle.piece.specs.Promise.{Finding, rising, falling, flat, bends, none, Ruling, ruling, rulingOf, Judged, width-refused, rise-refused, monotone, bent}
 use Rattle.slopes.specs.Slopes.{Built}
 use Rattle.position.specs.Position.{Located}
 use Rattle.curve.specs.Curve.{Evaluated}
-use Rattle.drive.specs.Drive.{Telling, dwell, move, Driving}
+use Rattle.drive.specs.declared.Answer.{Answer}
+use Rattle.drive.specs.declared.Answer.the-variants.{Dwell, Move}
+use Rattle.drive.specs.Drive.{Telling, dwell, move, toldOf, Driving}
 use Rattle.change.specs.Change.{Changed}
 use Rattle.exports.specs.declared.answers.Told.{Told}
 use Rattle.exports.specs.Cases.{verdictNumber, JudgedAs, judged, DrivenAs, dwells, moves}
 use Rattle.demands.specs.Demands.{Call, judge, points, build, check, locate, evaluate, float-answer, changed-points, point, Outcome, Implementation}
-use Rattle.demands.specs.Ours.{ours, ours-in-C, CrossedAs, a-dwell, a-move}
+use Rattle.demands.specs.Ours.{ours, ours-in-C, ByFloatAnswerC, CrossedAs, a-dwell, a-move}
 
 abbrev pub Promised : (call : Call) → Outcome call → Type 0
 Promised (judge h z m n) o = Judged h z m n (ruling (o .number) (o .place) (o .answer))
@@ -32,10 +40,24 @@ Promised (point made c t) o = Changed c t (o .lists) (o .number) (o .place)
 
 pub record Keeps (I : Implementation) : Type 0 where
   pub promised : (call : Call) (o : Outcome call) → I .May call o → Promised call o
+  pub allowed : (call : Call) (o : Outcome call) → Promised call o → I .May call o
   pub free : (call : Call) → I .Asks call
 
+-- a ruling is what some case of the enum says, and so is a telling
+verdict-of : {h z m n : ℤ} {a : Ruling} → Judged h z m n a → (r : Verdict) × (rulingOf r ≡ a)
+verdict-of (width-refused f) = (Refused (record { number = 3; place = 0 }), refl)
+verdict-of (rise-refused w f) = (Refused (record { number = 4; place = 0 }), refl)
+verdict-of {z = pos zero} (monotone w r o) = (Flat, refl)
+verdict-of {z = pos (suc z)} (monotone w r o) = (Rising, refl)
+verdict-of {z = negsuc z} (monotone w r o) = (Falling, refl)
+verdict-of (bent w r f) = (Bends, refl)
+
+case-of : (a : Telling) → (r : Answer) × (toldOf r ≡ a)
+case-of (dwell level) = (Dwell level, refl)
+case-of (move from above below) = (Move (record { left = from; numerator = above; denominator = below }), refl)
+
 pub ours-keeps : Keeps ours
-ours-keeps = record { promised = promised; free = free }
+ours-keeps = record { promised = promised; allowed = allowed; free = free }
   where
     promised : (call : Call) (o : Outcome call) → ours .May call o → Promised call o
     promised (judge h z m n) o p = subst (Judged h z m n) (p .says) (p .promised)
@@ -47,6 +69,17 @@ ours-keeps = record { promised = promised; free = free }
     promised (float-answer t x) o p = subst (Driving t x (o .number) (o .place)) (p .says) (p .promised)
     promised (changed-points c t) o p = p
     promised (point made c t) o p = p
+
+    allowed : (call : Call) (o : Outcome call) → Promised call o → ours .May call o
+    allowed (judge h z m n) o p = let r = verdict-of p in record { verdict = r .0; says = r .1; promised = subst (Judged h z m n) (sym (r .1)) p }
+    allowed (points t) o p = p
+    allowed (build t) o p = p
+    allowed (check t) o p = p
+    allowed (locate t x) o p = p
+    allowed (evaluate t x) o p = p
+    allowed (float-answer t x) o p = let r = case-of (o .answer) in record { told = r .0; says = r .1; promised = subst (Driving t x (o .number) (o .place)) (sym (r .1)) p }
+    allowed (changed-points c t) o p = p
+    allowed (point made c t) o p = p
 
     free : (call : Call) → ours .Asks call
     free (judge h z m n) = tt
@@ -91,8 +124,19 @@ crossed : {t : Table} {x : ℤ} {a : Telling} {r : Told} → CrossedAs a r → D
 crossed (a-dwell e) d = as-dwell e d
 crossed (a-move e) d = as-move e d
 
+crossing : {t : Table} {x : ℤ} {k p : ℕ} (a : Telling) → Driving t x k p a → ByFloatAnswerC t x (record { number = k; place = p; answer = a; lists = tt })
+crossing {k = k} {p} (dwell level) d =
+    record {
+      told = record { refusal = record { number = k; place = p }; kind = 0; left = level; numerator = fin false 0 (pos 0); denominator = ofInt binary64 (pos 1) };
+      refused-by = refl;
+      says = a-dwell refl;
+      promised = dwells d (plus-zero binary64) (cast-exactly binary64 (pos 1) (record { size = lit≤ tt }));
+    }
+crossing {k = k} {p} (move from above below) d =
+    record { told = record { refusal = record { number = k; place = p }; kind = 1; left = from; numerator = above; denominator = below }; refused-by = refl; says = a-move refl; promised = moves d }
+
 pub ours-in-C-keeps : Keeps ours-in-C
-ours-in-C-keeps = record { promised = promised; free = free }
+ours-in-C-keeps = record { promised = promised; allowed = allowed; free = free }
   where
     promised : (call : Call) (o : Outcome call) → ours-in-C .May call o → Promised call o
     promised (judge h z m n) o p = subst (λ (w : Finding). Judged h z m n (ruling (o .number) (o .place) w)) (there-and-back (o .answer)) (by-number p)
@@ -104,6 +148,17 @@ ours-in-C-keeps = record { promised = promised; free = free }
     promised (float-answer t x) o p = subst (λ (r : Refusal). Driving t x (r .number) (r .place) (o .answer)) (p .refused-by) (crossed (p .says) (p .promised))
     promised (changed-points c t) o p = p
     promised (point made c t) o p = p
+
+    allowed : (call : Call) (o : Outcome call) → Promised call o → ours-in-C .May call o
+    allowed (judge h z m n) o p = judged p
+    allowed (points t) o p = p
+    allowed (build t) o p = p
+    allowed (check t) o p = p
+    allowed (locate t x) o p = p
+    allowed (evaluate t x) o p = p
+    allowed (float-answer t x) o p = crossing (o .answer) p
+    allowed (changed-points c t) o p = p
+    allowed (point made c t) o p = p
 
     free : (call : Call) → ours-in-C .Asks call
     free (judge h z m n) = tt

@@ -2,7 +2,7 @@
 -- meets the demands.
 use mathlib.Core.Path.{_≡_, refl, sym, _∙_, ap, subst, subst₂}
 use mathlib.Core.Logic.{_↔_, _⊎_, inl, inr, ⊎-elim}
-use mathlib.Core.List.{List, [], _∷_}
+use mathlib.Core.List.{List, [], _∷_, _++_}
 use Prim.Native.Nat.{ℕ, _≤_}
 use native.Mathlib.Omega.{arith}
 use lib.IntN.{ℤ}
@@ -15,27 +15,48 @@ use Rattle.integers.specs.Signs.{by-sign}
 use Rattle.table.specs.declared.changed.Change.{Change}
 use Rattle.table.specs.Table.{Table, table, entry, Holds, not-monotone, buildOrder, checkOrder}
 use Rattle.table.specs.Accepted.{PointsWithin, accepted-points, accepted-table}
+use Rattle.table.specs.Found.{every-table-has-an-answer-to-a-build, every-table-has-an-answer-to-a-check, every-change-has-an-answer}
 use Rattle.table.specs.WouldBe.{changedBy}
 use Rattle.table.specs.AfterChange.{as-changed, accepted-then}
-use Rattle.piece.specs.Promise.{Finding, bends, Ruling, ruling, Judged, width-refused, rise-refused, monotone, bent}
+use Rattle.piece.specs.Found.{every-piece-has-a-verdict}
+use Rattle.piece.specs.Promise.{Finding, bends, Ruling, ruling, rulingOf, Judged, width-refused, rise-refused, monotone, bent}
 use Rattle.piece.specs.Leaning.{is-rising, is-falling, is-flat}
 use Rattle.piece.specs.Determined.{one-ruling}
 use Rattle.slopes.specs.Slopes.{builtSlope, Built}
+use Rattle.slopes.specs.Found.{every-build-has-an-answer}
 use Rattle.slopes.specs.Put.{tab-length, tab-entry}
 use Rattle.slopes.specs.Determined.{one-build}
 use Rattle.slopes.specs.EveryPiece.{a-built-table-passes-the-table-check}
+use Rattle.position.specs.Found.{every-position-is-located}
 use Rattle.position.specs.Refused.{accepted-at}
+use Rattle.curve.specs.Found.{every-evaluation-has-an-answer}
+use Rattle.drive.specs.Found.{every-float-answer-of-32-bit-values-tells}
 use Rattle.curve.specs.Curve.{Evaluated}
+use Rattle.change.specs.Found.{every-change-leaves-a-table}
 use Rattle.change.specs.Change.{Changed}
 use Rattle.change.specs.Chain as Chain
 use Rattle.change.specs.WhatIsWritten.{the-point-holds-the-new-knot, the-point-holds-the-new-value, the-slopes-at-it-and-beside-it-are-renewed, no-other-knot-changes, no-other-value-changes, no-other-slope-changes}
 use Rattle.change.specs.RefusedAsABuild.{made-only-then, made-then}
-use Rattle.demands.specs.Demands.{Call, judge, points, build, check, locate, evaluate, float-answer, changed-points, point, Outcome, Implementation, orderOf, HoldsAlone, width-outside, rise-outside, CauseOf, NoneHolds, opposite-ends, LooksAt, its-points, a-build, a-check, a-piece, a-value, a-float-answer, its-changed-points, a-change, lent, Demand1, Yes, it-rises, it-falls, it-is-flat, NoSlopeAgainstItsRise, NoneAgainst, RightSlope, RightSlopes, ExactRoundedDown, Demand2, ChainOf, none, next, JustThis, Demand3}
+use Rattle.demands.specs.Demands.{Call, judge, points, build, check, locate, evaluate, float-answer, changed-points, point, Outcome, Implementation, orderOf, HoldsAlone, width-outside, rise-outside, CauseOf, NoneHolds, opposite-ends, LooksAt, its-points, a-build, a-check, a-piece, a-value, a-float-answer, its-changed-points, a-change, lent, MayComeIn, Demand1, Yes, it-rises, it-falls, it-is-flat, NoSlopeAgainstItsRise, NoneAgainst, RightSlope, RightSlopes, ExactRoundedDown, Demand2, ChainOf, none, next, JustThis, Demand3}
 use Rattle.demands.specs.Ours.{ours, ours-in-C}
 use Rattle.demands.specs.Kept.{Promised, Keeps, ours-keeps, ours-in-C-keeps}
 use Rattle.demands.specs.ByOrder.{refused-exactly, none-given}
 use Rattle.demands.specs.Cubic.{no-slope-against, monotone-without}
 use Rattle.demands.specs.Shown.{by-a-build, by-a-check, by-an-evaluation, by-a-float-answer, right-slope, value-floor, less-or-not}
+
+-- ---- the parts of a ruling
+
+abbrev pub numberOf : Ruling → ℕ
+numberOf (ruling number place finding) = number
+
+abbrev pub placeOf : Ruling → ℕ
+placeOf (ruling number place finding) = place
+
+abbrev pub findingOf : Ruling → Finding
+findingOf (ruling number place finding) = finding
+
+in-full : (a : Ruling) → a ≡ ruling (numberOf a) (placeOf a) (findingOf a)
+in-full (ruling number place finding) = refl
 
 -- ---- each call gives its refusal by one rule
 
@@ -64,6 +85,18 @@ by-the-order (point made c t) o p = p .refusal
 
 -- ---- 1
 
+some-outcome : (call : Call) → MayComeIn call → (o : Outcome call) × Promised call o
+some-outcome (judge h z m n) c = let r = every-piece-has-a-verdict h z m n in
+    (record { number = numberOf (rulingOf (r .verdict)); place = placeOf (rulingOf (r .verdict)); answer = findingOf (rulingOf (r .verdict)); lists = tt }, subst (Judged h z m n) (in-full (rulingOf (r .verdict))) (r .judged))
+some-outcome (points t) c = let g = every-table-has-an-answer-to-a-build t in (record { number = g .number; place = g .place; answer = tt; lists = tt }, g .given)
+some-outcome (build t) c = let b = every-build-has-an-answer (t .knots) (t .values) (t .slopes) in (record { number = b .number; place = b .place; answer = tt; lists = b .after }, b .built)
+some-outcome (check t) c = let g = every-table-has-an-answer-to-a-check t in (record { number = g .number; place = g .place; answer = tt; lists = tt }, g .given)
+some-outcome (locate t x) c = let l = every-position-is-located t x in (record { number = l .number; place = l .place; answer = l .piece; lists = tt }, l .located)
+some-outcome (evaluate t x) c = let e = every-evaluation-has-an-answer t x in (record { number = e .number; place = e .place; answer = e .value; lists = tt }, e .evaluated)
+some-outcome (float-answer t x) c = let d = every-float-answer-of-32-bit-values-tells t x c in (record { number = d .number; place = d .place; answer = d .told; lists = tt }, d .driving)
+some-outcome (changed-points c t) _ = let g = every-change-has-an-answer c t in (record { number = g .number; place = g .place; answer = tt; lists = tt }, g .given)
+some-outcome (point made c t) _ = let u = every-change-leaves-a-table c t in (record { number = u .number; place = u .place; answer = tt; lists = u .after }, u .changed)
+
 at-opposite-ends : {v w m n : ℤ} {call : Call} → LooksAt (opposite-ends v w m n) call → Given (CauseOf call) (orderOf call) 3 0
 at-opposite-ends {v} {w} {m} {n} its-points = by-a-build v w m n
 at-opposite-ends {v} {w} {m} {n} a-build = by-a-build v w m n
@@ -91,15 +124,12 @@ untouched (point made c t) o p f =
 
 -- ---- 2
 
-abbrev said : Ruling → Finding
-said (ruling number place finding) = finding
-
 a-piece-by-its-promise : {h z m n : ℤ} {number place : ℕ} {finding : Finding} → WidthWithin h → RiseWithin z → Judged h z m n (ruling number place finding) → Yes z finding ↔ NoSlopeAgainstItsRise h z m n
 a-piece-by-its-promise {h} {z} {m} {n} {finding = finding} w l j = (
-  λ y. no-slope-against (monotone-stable (λ f. not-bends y (ap said (one-ruling j (bent w l f))))),
+  λ y. no-slope-against (monotone-stable (λ f. not-bends y (ap findingOf (one-ruling j (bent w l f))))),
   λ s. let o = monotone-without s in
-      by-sign z (λ p. subst (Yes z) (ap said (one-ruling (is-rising w l p o) j)) (it-rises p)) (λ p. subst (Yes z) (ap said (one-ruling (is-falling w l p o) j)) (it-falls p))
-      (λ e. subst (Yes z) (ap said (one-ruling (is-flat w l e o) j)) (it-is-flat e)),
+      by-sign z (λ p. subst (Yes z) (ap findingOf (one-ruling (is-rising w l p o) j)) (it-rises p)) (λ p. subst (Yes z) (ap findingOf (one-ruling (is-falling w l p o) j)) (it-falls p))
+      (λ e. subst (Yes z) (ap findingOf (one-ruling (is-flat w l e o) j)) (it-is-flat e)),
 )
   where
     not-bends : Yes z finding → finding ≡ bends → ⊥
@@ -168,6 +198,7 @@ chained k (next {made} {c} {t = t} p more) = Chain.next (k .promised (point made
 module _ {I : Implementation} (k : Keeps I) where
   pub demand-1 : Demand1 I
   demand-1 = record {
+    any-may-come-in = λ call c. let o = some-outcome call c in (o .0, k .allowed call (o .0) (o .1));
     counts-at-opposite-ends-are-refused = λ {v} {w} {m} {n} {call} l p. one-given (by-the-order call _ (k .promised call _ p)) (at-opposite-ends l);
     nobody-is-asked = k .free;
     refused-exactly-then = λ {call} p. refused-exactly (by-the-order call _ (k .promised call _ p));
@@ -200,3 +231,12 @@ met = (demand-1 ours-keeps, demand-2 ours-keeps, demand-3 ours-keeps)
 
 pub met-in-C : Demand1 ours-in-C × Demand2 ours-in-C × Demand3 ours-in-C
 met-in-C = (demand-1 ours-in-C-keeps, demand-2 ours-in-C-keeps, demand-3 ours-in-C-keeps)
+
+-- ======== "any number of times": every list of changes has a chain, of any implementation that meets the first demand
+
+pub every-list-of-changes-has-a-chain : {I : Implementation} → Demand1 I → (made changes : List Change) (t : Table) → (u : Table) × ChainOf I made changes t u
+every-list-of-changes-has-a-chain d made [] t = (t, none)
+every-list-of-changes-has-a-chain d made (c ∷ more) t =
+    let o = d .any-may-come-in (point made c t) tt in
+    let rest = every-list-of-changes-has-a-chain d (made ++ c ∷ []) more (o .0 .lists) in
+    (rest .0, next (o .1) (rest .1))

@@ -16,7 +16,7 @@ use Rattle.rules.specs.Order.{went-on}
 use Rattle.table.specs.Table.{table}
 use Rattle.table.specs.Accepted.{PointsWithin, points-accepted}
 use Rattle.table.specs.Tested.{points-by-test}
-use Rattle.piece.specs.Promise.{Finding, bends, Ruling, ruling, leaning, Judged, monotone, bent}
+use Rattle.piece.specs.Promise.{Finding, bends, ruling, leaning, Judged, monotone, bent}
 use Rattle.piece.specs.Determined.{one-ruling}
 use Rattle.slopes.specs.Slopes.{builtSlopes, Built}
 use Rattle.slopes.specs.Determined.{one-build}
@@ -28,6 +28,7 @@ use Rattle.curve.specs.Determined.{one-evaluation}
 use Rattle.demands.specs.Demands.{judge, build, evaluate, Implementation}
 use Rattle.demands.specs.Ours.{ours, ours-in-C}
 use Rattle.demands.specs.Kept.{Keeps, ours-keeps, ours-in-C-keeps}
+use Rattle.demands.specs.Met.{numberOf, placeOf, findingOf}
 use Rattle.demands.specs.Sixteen.{piece, slopes, value, sixteen, Gives, All, none, _&_, TheSixteen}
 
 -- ---- a piece that does not bend, by the test that decides the definition, and one that does, at a fraction where its slope is against its rise
@@ -65,15 +66,6 @@ has-value {knots} {values} {x = x} w p e b =
     }
 
 -- ---- so what keeps the promises gives them
-
-abbrev numberOf : Ruling → ℕ
-numberOf (ruling number place finding) = number
-
-abbrev placeOf : Ruling → ℕ
-placeOf (ruling number place finding) = place
-
-abbrev findingOf : Ruling → Finding
-findingOf (ruling number place finding) = finding
 
 module _ {I : Implementation} (k : Keeps I) where
   a-piece : {h z m n : ℤ} {finding : Finding} → Judged h z m n (ruling 0 0 finding) → Gives I (piece h z m n finding)

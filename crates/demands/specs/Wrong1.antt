@@ -33,6 +33,11 @@ use Rattle.demands.specs.Shown.{by-a-build, by-a-check}
 use Rattle.demands.specs.SixteenGiven.{within, count, has-value}
 use Rattle.demands.specs.Wrong.{outcome, answering, another-judge, another-points, another-build, another-check, another-locate, another-evaluate, another-float-answer, another-changed-points, another-point, its-cause, its-refusal, not-equal, two, two-built, four, four-within}
 
+-- ======== "Any points, slopes, positions and edits may come in, from any list of any length."
+
+pub a-check-without-an-answer : Demand1 (answering (another-check (λ t o. ⊥))) → ⊥
+a-check-without-an-answer d = d .any-may-come-in (check two) tt .1
+
 -- ======== "is given exactly when its cause holds and no earlier one does": a refusal without its cause
 
 -- "a verdict, builder, evaluation or change that always refuses (demand 1: a refusal only for its cause ..)"
