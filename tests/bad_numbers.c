@@ -111,20 +111,27 @@ static void try_some_numbers(void) {
 
 void bad_numbers(void) {
     size_t i, j, k;
+    trying("pieces whose verdict is known");
     try_known_pieces();
+    trying("pieces of extreme numbers");
     try_pieces();
+    trying("pieces at the border");
     for (i = 0; i < 4000; i++)
         try_border();
+    trying("some numbers");
     for (i = 0; i < 4000; i++)
         try_some_numbers();
+    trying("every number up to the most points");
     for (i = 0; i <= 1026; i++)
         try_limits((int64_t)i);
-    for (i = 0; i < COUNT(NUMBERS); i++) {
+    trying("extreme numbers");
+    for (i = 0; i < COUNT(NUMBERS); i++)
         try_limits(NUMBERS[i]);
+    trying("extreme numbers with others");
+    for (i = 0; i < COUNT(NUMBERS); i++)
         for (j = 0; j < COUNT(NUMBERS); j++) {
             try_two(NUMBERS[i], NUMBERS[j]);
             for (k = 0; k < COUNT(NUMBERS); k++)
                 try_between(NUMBERS[i], NUMBERS[j], NUMBERS[k]);
         }
-    }
 }

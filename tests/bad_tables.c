@@ -433,12 +433,16 @@ static void try_tables(void) {
     size_t points;
     int round;
     what = "a table by its widths and rises";
+    trying("small tables");
     for (round = 0; round < 600; round++)
         try_table(2 + (size_t)dice(6));
+    trying("the largest tables");
     for (round = 0; round < 20; round++)
         try_table(1023 + (size_t)dice(2));
+    trying("tables between them");
     for (round = 0; round < 60; round++)
         try_table(8 + (size_t)dice(round % 4 == 0 ? 1015 : 30));
+    trying("tables of every number of points");
     for (points = 2; points <= 1024; points++)
         try_length(points);
 }
@@ -449,13 +453,20 @@ void bad_tables(void) {
     guarded_map(&slopes);
     for (where = GUARD_BEHIND; where <= GUARD_BEFORE; where++) {
         what = "a table whose answer is known";
+        trying("a slope that is known");
         try_known_slope();
+        trying("a value that is known");
         try_known_value();
+        trying("bends that are known");
         try_known_bend(1, 1042998, 801022472, 801022456);
         try_known_bend(1, 0, INT32_MIN, 0);
+        trying("changes in a long table");
         try_changes_of_many();
+        trying("lengths that 16 bits do not hold");
         try_long_lengths();
+        trying("good lists of unlike lengths");
         try_lengths(true);
+        trying("extreme lists of unlike lengths");
         try_lengths(false);
         try_tables();
     }

@@ -107,14 +107,17 @@ static void try_same_bytes(size_t length, uint8_t byte) {
 static void try_lines(void) {
     size_t shape, length, i;
     uint64_t kinds;
+    trying("lines of one byte over and over");
     for (i = 0; i < COUNT(BYTES); i++)
         for (length = 1; length <= 3; length++)
             try_same_bytes(length, BYTES[i]);
+    trying("lines of every length");
     for (length = 0; length <= EVERY_LENGTH; length++) {
         guarded_lend(&text, length, 1, where);
         fill(1 + dice(COUNT(BYTES)));
         try_line();
     }
+    trying("lines around the limits of lengths");
     for (shape = 0; shape < SHAPES; shape++)
         for (kinds = 1; kinds <= COUNT(BYTES); kinds++) {
             guarded_lend_shape(&text, shape, 1, where);
@@ -180,11 +183,14 @@ static void try_digits(size_t length) {
 
 static void try_texts(void) {
     size_t i, shape;
+    trying("texts");
     for (i = 0; i < COUNT(TEXTS); i++)
         try_text(TEXTS[i], strlen(TEXTS[i]));
     try_text("7", 2); /* with the 0 byte behind it */
+    trying("digits of every length");
     for (i = 1; i <= EVERY_LENGTH; i++)
         try_digits(i);
+    trying("digits around the limits of lengths");
     for (shape = 0; shape < SHAPES; shape++)
         for (i = 0; i < 3; i++) {
             guarded_lend_shape(&text, shape, 1, where);
@@ -264,10 +270,12 @@ static void try_buffer(void) {
 
 static void try_buffers(void) {
     size_t shape, length;
+    trying("buffers of every length");
     for (length = 0; length <= EVERY_LENGTH; length++) {
         guarded_lend(&text, length, 1, where);
         try_buffer();
     }
+    trying("buffers around the limits of lengths");
     for (shape = 0; shape < SHAPES; shape++) {
         guarded_lend_shape(&text, shape, 1, where);
         try_buffer();

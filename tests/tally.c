@@ -1,6 +1,8 @@
 #define _DEFAULT_SOURCE
 #include "tally.h"
 
+#include "bad_callers.h"
+
 #include <inttypes.h>
 #include <signal.h>
 #include <stdarg.h>
@@ -20,11 +22,94 @@ static const struct {
     unsigned count;
 } families[CASES] = {{"verdict", 5}, {"kind of float answer", 2}, {"kind of number", 3}};
 
+/* What has to be tried, and by how many calls at least: a tenth below the present number, so that none can be left out or cut down unseen. */
+typedef struct {
+    const char *name;
+    unsigned long least, calls;
+} tried;
+
+static tried functions[] = {
+    {"negwafir_points", 4401, 0},
+    {"negwafir_build", 4402, 0},
+    {"negwafir_check", 11759, 0},
+    {"negwafir_changed_points", 64605, 0},
+    {"negwafir_change_point", 64605, 0},
+    {"negwafir_evaluate", 33486, 0},
+    {"negwafir_float_answer", 33486, 0},
+    {"negwafir_locate", 33486, 0},
+    {"negwafir_judge", 100053, 0},
+    {"negwafir_difference", 1622, 0},
+    {"negwafir_between", 42187, 0},
+    {"negwafir_floor_div", 4702, 0},
+    {"negwafir_count_within", 4555, 0},
+    {"negwafir_width_within", 4555, 0},
+    {"negwafir_rise_within", 4555, 0},
+    {"negwafir_find", 27820, 0},
+    {"negwafir_content", 289, 0},
+    {"negwafir_append", 4838, 0},
+    {"negwafir_next_word", 2318, 0},
+    {"negwafir_count_words", 2318, 0},
+    {"negwafir_part", 18547, 0},
+    {"negwafir_whole", 329, 0},
+    {"negwafir_whole32", 329, 0},
+    {"negwafir_append_natural", 11059, 0},
+    {"negwafir_append_whole", 11059, 0},
+    {"negwafir_append_whole32", 11059, 0},
+};
+
+static tried kinds[] = {
+    {"pieces whose verdict is known", 9, 0},
+    {"pieces of extreme numbers", 92844, 0},
+    {"pieces at the border", 7200, 0},
+    {"some numbers", 18966, 0},
+    {"every number up to the most points", 2772, 0},
+    {"extreme numbers", 94, 0},
+    {"extreme numbers with others", 40346, 0},
+    {"lines of one byte over and over", 11469, 0},
+    {"lines of every length", 13062, 0},
+    {"lines around the limits of lengths", 26762, 0},
+    {"texts", 151, 0},
+    {"digits of every length", 432, 0},
+    {"digits around the limits of lengths", 75, 0},
+    {"buffers of every length", 32472, 0},
+    {"buffers around the limits of lengths", 5544, 0},
+    {"small tables", 178351, 0},
+    {"the largest tables", 5999, 0},
+    {"tables between them", 17895, 0},
+    {"tables of every number of points", 23924, 0},
+    {"a slope that is known", 2, 0},
+    {"a value that is known", 5, 0},
+    {"bends that are known", 3, 0},
+    {"changes in a long table", 10, 0},
+    {"lengths that 16 bits do not hold", 1814, 0},
+    {"good lists of unlike lengths", 11113, 0},
+    {"extreme lists of unlike lengths", 11113, 0},
+};
+
+static tried *kind;
+
+static tried *named(const char *name, size_t length, tried *all, size_t count) {
+    size_t i;
+    for (i = 0; i < count; i++)
+        if (strlen(all[i].name) == length && memcmp(all[i].name, name, length) == 0)
+            return &all[i];
+    wrong("tally.c does not know what '%.*s' is", (int)length, name);
+    return NULL;
+}
+
+void trying(const char *name) {
+    kind = named(name, strlen(name), kinds, COUNT(kinds));
+}
+
 void calling(const char *format, ...) {
     va_list arguments;
     va_start(arguments, format);
     vsnprintf(call, sizeof call, format, arguments);
     va_end(arguments);
+    if (kind == NULL)
+        wrong("its kind was not said before");
+    named(call, strcspn(call, " "), functions, COUNT(functions))->calls++;
+    kind->calls++;
     calls++;
 }
 
@@ -84,6 +169,13 @@ static bool is_of_a_piece(unsigned number) {
     return number == NEGWAFIR_WIDTH || number == NEGWAFIR_RISE || number == NEGWAFIR_BEND || number == NEGWAFIR_SIZE;
 }
 
+static void tried_enough(const tried *all, size_t count) {
+    size_t i;
+    for (i = 0; i < count; i++)
+        if (all[i].calls < all[i].least)
+            wrong("%s: %lu calls, and it has to be %lu or more", all[i].name, all[i].calls, all[i].least);
+}
+
 void tally_end(void) {
     unsigned number, which;
     strcpy(call, "after the last call");
@@ -96,6 +188,8 @@ void tally_end(void) {
         for (number = 0; number < families[which].count; number++)
             if (met_case[which][number] == 0)
                 wrong("no call was answered by %s %u", families[which].name, number);
+    tried_enough(functions, COUNT(functions));
+    tried_enough(kinds, COUNT(kinds));
     printf("bad callers: %lu calls, %lu refusals, ok\n", calls, refusals);
 }
 

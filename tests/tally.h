@@ -4,6 +4,9 @@
 
 #include "negwafir.h"
 
+/* Said before calls of one kind, by the name that tally.c has for it. */
+void trying(const char *kind);
+
 /* Said before each call: the function, and what it is given. */
 void calling(const char *format, ...);
 
@@ -22,7 +25,7 @@ void met(family which, uint32_t number);
 /* From here on a call that touches what it may not touch is said and ends the run. */
 void tally_begin(void);
 
-/* Every refusal, verdict and kind has been met, and so many calls were made. */
+/* Every refusal, verdict and kind of answer has been met, and every function and kind of call was tried often enough. */
 void tally_end(void);
 
 /* Numbers at random, the same in every run. */
