@@ -24,8 +24,7 @@ use Rattle.exports.specs.Cases.{judged, moves}
 use Rattle.demands.specs.Demands.{judge, points, build, check, locate, evaluate, float-answer, changed-points, point, Implementation}
 use Rattle.demands.specs.Ours.{ours, ours-in-C, a-move}
 use Rattle.demands.specs.SixteenGiven.{within, has-value}
-use Rattle.demands.specs.Wrong.{outcome, two, two-within, two-built, two-passes, four}
-use Rattle.demands.specs.Wrong3.{lowering, lowered, is-lowered}
+use Rattle.demands.specs.Programs.{outcome, two, two-within, two-built, two-passes, four, lowering, lowered, is-lowered}
 
 -- 23038 and 6912 are 11519·2 and 27·2^8
 abbrev numerator : Telling

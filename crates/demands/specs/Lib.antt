@@ -5,12 +5,12 @@ pub mod Instances
 pub mod Kept
 pub mod Met
 pub mod Ours
+pub mod Programs
 pub mod Rules
 pub mod Shown
 pub mod Sixteen
 pub mod SixteenGiven
 pub mod Ties
-pub mod Wrong
 pub mod Wrong1
 pub mod Wrong16
 pub mod Wrong2

@@ -86,12 +86,12 @@ use Rattle.exports.proofs.negwafir_change_point.Reads as exports·negwafir_chan
 
 -- `Pre` and `Post` take the lifetimes of the lent lists and the arguments at the call, and `Post` what is returned and the arguments when the call returns. `seen` is what
 -- of these two is the result.
-module _ {L W : Type 0} {A R S : L → Type 0} (Pre : (κs : L) → A κs → Type 0) (Post : (κs : L) → A κs → R κs → S κs → Type 0) (seen : (κs : L) → R κs → S κs → W) where
-  abbrev pub Tied : Type 0
-  Tied = ((κs : L) (a : A κs) → Pre κs a) × ((κs : L) (a : A κs) (r s : R κs) (x y : S κs) → Post κs a r x → Post κs a s y → seen κs r x ≡ seen κs s y)
+abbrev pub Tied : {L W : Type 0} {A R S : L → Type 0} → ((κs : L) → A κs → Type 0) → ((κs : L) → A κs → R κs → S κs → Type 0) → ((κs : L) → R κs → S κs → W) → Type 0
+Tied {L} {W} {A} {R} {S} Pre Post seen =
+    ((κs : L) (a : A κs) → Pre κs a) × ((κs : L) (a : A κs) (r s : R κs) (x y : S κs) → Post κs a r x → Post κs a s y → seen κs r x ≡ seen κs s y)
 
-  abbrev pub TiedWhere : Type 0
-  TiedWhere = (κs : L) (a : A κs) (r s : R κs) (x y : S κs) → Pre κs a → Post κs a r x → Post κs a s y → seen κs r x ≡ seen κs s y
+abbrev pub TiedWhere : {L W : Type 0} {A R S : L → Type 0} → ((κs : L) → A κs → Type 0) → ((κs : L) → A κs → R κs → S κs → Type 0) → ((κs : L) → R κs → S κs → W) → Type 0
+TiedWhere {L} {W} {A} {R} {S} Pre Post seen = (κs : L) (a : A κs) (r s : R κs) (x y : S κs) → Pre κs a → Post κs a r x → Post κs a s y → seen κs r x ≡ seen κs s y
 
 -- what is returned; what a returned part of a list holds; and what is returned with the first list, the third, or all three
 abbrev pub result : {L R S : Type 0} → L → R → S → R

@@ -31,7 +31,7 @@ use Rattle.demands.specs.Ours.{May}
 use Rattle.demands.specs.Met.{width-taken}
 use Rattle.demands.specs.Shown.{by-a-build, by-a-check}
 use Rattle.demands.specs.SixteenGiven.{within, count, has-value}
-use Rattle.demands.specs.Wrong.{outcome, answering, another-judge, another-points, another-build, another-check, another-locate, another-evaluate, another-float-answer, another-changed-points, another-point, its-cause, its-refusal, not-equal, two, two-built, four, four-within}
+use Rattle.demands.specs.Programs.{outcome, answering, another-judge, another-points, another-build, another-check, another-locate, another-evaluate, another-float-answer, another-changed-points, another-point, its-cause, its-refusal, not-equal, two, two-built, four, four-within}
 
 -- ======== "Any points, slopes, positions and edits may come in, from any list of any length."
 

@@ -10,8 +10,8 @@ use Rattle.rules.specs.Refusals.{answered}
 use Rattle.piece.specs.Promise.{Finding, rising, falling, flat, bends}
 use Rattle.demands.specs.Demands.{Implementation}
 use Rattle.demands.specs.Sixteen.{Case, Gives, All, none, _&_, TheSixteen}
-use Rattle.demands.specs.Wrong.{outcome, answering, another-judge, not-equal, two, two-built, three-within}
-use Rattle.demands.specs.Wrong2.{ByThePaper, turned-away, not-by-less, BySigns, leaving, idle-afterwards, rising-by, toward-zero, at-1, minus-four}
+use Rattle.demands.specs.Programs.{outcome, answering, another-judge, not-equal, two, two-built, three-within, at-1, minus-four, ByThePaper, turned-away, not-by-less}
+use Rattle.demands.specs.Wrong2.{BySigns, leaving, idle-afterwards, rising-by, toward-zero}
 
 -- what case i of a list says
 abbrev Says : Implementation → List Case → ℕ → Type 0

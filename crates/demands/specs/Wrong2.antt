@@ -1,6 +1,5 @@
 -- Wrong programs that break the second demand, each ours but for what is said of it. Between quotation marks are the words in which document 01 names it.
 use mathlib.Core.Path.{_≡_, refl, sym, subst}
-use mathlib.Core.Logic.{_⊎_, ⊎-elim}
 use mathlib.Core.List.{List, [], _∷_}
 use Prim.Native.Nat.{ℕ, _+_}
 use native.Mathlib.Omega.{arith}
@@ -33,7 +32,7 @@ use Rattle.demands.specs.ByOrder.{none-holds}
 use Rattle.demands.specs.Cubic.{no-slope-against}
 use Rattle.demands.specs.Met.{its-value-is-exact}
 use Rattle.demands.specs.SixteenGiven.{within, count, has-slopes, has-value}
-use Rattle.demands.specs.Wrong.{outcome, answering, another-judge, another-build, another-check, another-evaluate, not-equal, two, two-within, two-built, two-passes, three, three-within}
+use Rattle.demands.specs.Programs.{outcome, answering, another-judge, another-build, another-check, another-evaluate, not-equal, two, two-within, two-built, two-passes, three, three-within, at-1, minus-four, ByThePaper, turned-away, not-by-less}
 
 -- ======== "A piece within the limits gets a yes exactly when its cubic has no slope against its rise at any fraction of its width ..": no yes where there is to be one
 
@@ -55,20 +54,7 @@ a-rise-called-a-fall d = not-falling (d .a-piece-gets-a-yes-exactly-then {o = ou
     not-falling : Yes (pos 1) falling → ⊥
     not-falling (it-falls l) = l .lt
 
--- "Copying the paper's "<", which turns away 768, 768 above." The paper also "asks for equal signs of slopes and rise".
-pub record ThePapersTest (Z a b : ℤ) : Type 0 where
-  pub starts-with-the-rise : pos 0 <ℤ a
-  pub ends-with-the-rise : pos 0 <ℤ b
-  pub one-of-four : ((a +ℤ b) ≤ℤ (pos 2 *ℤ Z)) ⊎ (((pos 2 *ℤ a +ℤ b) ≤ℤ (pos 3 *ℤ Z)) ⊎ (((a +ℤ pos 2 *ℤ b) ≤ℤ (pos 3 *ℤ Z)) ⊎ ((a *ℤ a +ℤ a *ℤ b +ℤ b *ℤ b -ℤ pos 6 *ℤ Z *ℤ (a +ℤ b) +ℤ pos 9 *ℤ (Z *ℤ Z)) <ℤ pos 0)))
-
-pub data ByThePaper (h z m n : ℤ) : Outcome (judge h z m n) → Type 0 where
-  accepted : pos 0 <ℤ z → ThePapersTest (unit *ℤ z) (m *ℤ h) (n *ℤ h) → ByThePaper h z m n (outcome 0 0 rising tt)
-  turned-away : pos 0 <ℤ z → (ThePapersTest (unit *ℤ z) (m *ℤ h) (n *ℤ h) → ⊥) → ByThePaper h z m n (outcome 0 0 bends tt)
-  otherwise : {o : Outcome (judge h z m n)} → (pos 0 <ℤ z → ⊥) → May (judge h z m n) o → ByThePaper h z m n o
-
-pub not-by-less : ThePapersTest (pos 256) (pos 768) (pos 768) → ⊥
-not-by-less t = ⊎-elim (λ l. l .le) (⊎-elim (λ l. l .le) (⊎-elim (λ l. l .le) (λ l. l .lt))) (t .one-of-four)
-
+-- "Copying the paper's "<", which turns away 768, 768 above."
 pub the-papers-less : Demand2 (answering (another-judge ByThePaper)) → ⊥
 the-papers-less d = elim (d .a-piece-gets-a-yes-exactly-then {o = outcome 0 0 bends tt} (within tt tt) (within tt tt) (turned-away (ltZ-yes tt) not-by-less) .1 at-the-border) [ ]
 
@@ -85,7 +71,7 @@ a-verdict-that-always-says-rising d = against (d .a-piece-gets-a-yes-exactly-the
 -- "Testing only that both slopes have the rise's sign, which lets 1, 1, 1025, 256 through."
 pub data BySigns (h z m n : ℤ) : Outcome (judge h z m n) → Type 0 where
   accepted : pos 0 <ℤ z → pos 0 ≤ℤ m → pos 0 ≤ℤ n → BySigns h z m n (outcome 0 0 rising tt)
-  turned-away : pos 0 <ℤ z → ((pos 0 ≤ℤ m) × (pos 0 ≤ℤ n) → ⊥) → BySigns h z m n (outcome 0 0 bends tt)
+  signs-differ : pos 0 <ℤ z → ((pos 0 ≤ℤ m) × (pos 0 ≤ℤ n) → ⊥) → BySigns h z m n (outcome 0 0 bends tt)
   otherwise : {o : Outcome (judge h z m n)} → (pos 0 <ℤ z → ⊥) → May (judge h z m n) o → BySigns h z m n o
 
 pub only-the-signs : Demand2 (answering (another-judge BySigns)) → ⊥
@@ -221,13 +207,6 @@ toward-zero h z m n t = towardZero (numerator unit h z m n t) (denominator unit 
 
 abbrev pub mirrored : (h z m n t : ℤ) → ℤ
 mirrored h z m n t = risen unit h z n m t
-
--- −4 at position 1 of (0,0), (3,−10)
-pub at-1 : Belongs (two .knots) (pos 1) 0
-at-1 = inside {i = 0} (lit< tt) (leZ-yes tt) (ltZ-yes tt)
-
-pub minus-four : Evaluated two (pos 1) 0 0 (negsuc 3)
-minus-four = has-value {before = two .slopes} (within tt tt) at-1 refl (two-built (two .slopes) refl)
 
 -- "an evaluation that answers the left value (demand 2)"
 pub an-evaluation-that-answers-the-left-value : Demand2 (answering (rising-by nothing-more)) → ⊥

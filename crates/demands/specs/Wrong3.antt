@@ -5,20 +5,20 @@ use mathlib.Core.List.{List, [], _∷_, _++_}
 use Prim.Native.Nat.{ℕ, zero, suc, _-_}
 use native.Mathlib.Omega.{arith}
 use lib.Dec.{lit<, lit≤}
-use lib.IntN.{ℤ, pos, negsuc}
+use lib.IntN.{ℤ, pos}
 use lib.Signed.{ltZ-yes}
-use lib.ListN.{length, set}
+use lib.ListN.{set}
 use Rattle.table.specs.declared.changed.Change.{Change}
 use Rattle.table.specs.Table.{Table, table, entry}
-use Rattle.table.specs.Accepted.{PointsWithin, points-accepted}
+use Rattle.table.specs.Accepted.{points-accepted}
 use Rattle.table.specs.Tested.{points-by-test}
 use Rattle.table.specs.WouldBe.{changedBy}
 use Rattle.table.specs.AfterChange.{as-changed}
-use Rattle.slopes.specs.Slopes.{builtSlopes, Built}
+use Rattle.slopes.specs.Slopes.{builtSlopes}
 use Rattle.change.specs.Change.{Changed}
 use Rattle.demands.specs.Demands.{Call, point, Outcome, none, next, JustThis, Demand3}
-use Rattle.demands.specs.SixteenGiven.{count, has-slopes}
-use Rattle.demands.specs.Wrong.{outcome, answering, another-point, not-equal, four, four-built}
+use Rattle.demands.specs.SixteenGiven.{count}
+use Rattle.demands.specs.Programs.{outcome, answering, another-point, not-equal, four, four-built, lowering, lowered, lowered-within, is-lowered, lowered-built}
 
 -- A change that refuses as ours does, and where it does not leaves something in place of what ours leaves; it may go by the changes made before.
 abbrev pub when-done : ℕ → (old new : Table) → Table
@@ -33,22 +33,6 @@ to-be : (left : List Change → Change → (before ours : Table) → Table) → 
 to-be left d made c t {u} changed = d .each-accepted-change-does-just-this {made = made} {c = c} {t = t} {o = outcome 0 0 tt (left made c t u)} (u, (changed, refl)) refl
 
 -- ---- changes of (0,0), (1,1), (2,4), (3,7)
-
--- "Point 0 changed to (0,−2): 768, 768, 768, 768."
-abbrev pub lowering : Change
-lowering = record { point = 0; knot = pos 0; value = negsuc 1 }
-
-abbrev pub lowered : Table
-lowered = table (four .knots) (negsuc 1 ∷ pos 1 ∷ pos 4 ∷ pos 7 ∷ []) (pos 768 ∷ pos 768 ∷ pos 768 ∷ pos 768 ∷ [])
-
-lowered-within : PointsWithin (lowered .knots) (lowered .values)
-lowered-within = points-by-test _ _ refl (count tt tt) tt
-
-pub is-lowered : Changed lowering four lowered 0 0
-is-lowered = record { refusal = as-changed lowering four (lit< tt) (points-accepted lowered-within refl); knots = refl; values = refl; slopes = refl }
-
-lowered-built : (before : List ℤ) → length before ≡ 4 → Built (lowered .knots) (lowered .values) before (lowered .slopes) 0 0
-lowered-built before l = has-slopes lowered-within refl l
 
 -- point 1 raised to (1,2), and point 3 moved to (4,7)
 abbrev raising : Change

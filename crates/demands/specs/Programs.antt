@@ -1,24 +1,31 @@
--- What the wrong programs of `Wrong1.antt`, `Wrong2.antt` and `Wrong3.antt` are made of, and the tables on which they are told.
+-- What the wrong programs of `Wrong1.antt`, `Wrong2.antt`, `Wrong3.antt` and `Wrong16.antt` are made of, and the tables on which they are told.
 use mathlib.Core.Path.{_≡_, refl}
+use mathlib.Core.Logic.{_⊎_, ⊎-elim}
 use mathlib.Core.List.{List, [], _∷_}
 use Prim.Native.Nat.{ℕ, _<_}
 use native.Mathlib.Omega.{arith}
-use lib.Dec.{T}
-use lib.IntN.{ℤ, pos, negsuc}
-use lib.Signed.{_<ℤ_, ltZ, ltZ-yes}
+use lib.Dec.{T, lit<}
+use lib.IntN.{ℤ, pos, negsuc, _+ℤ_, _-ℤ_, _*ℤ_}
+use lib.Signed.{_≤ℤ_, _<ℤ_, ltZ, leZ-yes, ltZ-yes}
 use lib.ListN.{length}
 use Rattle.integers.specs.Linear.{lin, says}
+use Rattle.cubic.specs.Piece.{unit}
 use Rattle.rules.specs.Refusals.{Given}
 use Rattle.table.specs.declared.changed.Change.{Change}
 use Rattle.table.specs.Table.{Table, table, Holds, checkOrder}
-use Rattle.table.specs.Accepted.{PointsWithin}
+use Rattle.table.specs.Accepted.{PointsWithin, points-accepted}
 use Rattle.table.specs.Tested.{points-by-test}
+use Rattle.table.specs.AfterChange.{as-changed}
+use Rattle.piece.specs.Promise.{rising, bends}
 use Rattle.slopes.specs.Slopes.{Built}
 use Rattle.slopes.specs.EveryPiece.{a-built-table-passes-the-table-check}
+use Rattle.position.specs.Position.{Belongs, inside}
+use Rattle.curve.specs.Curve.{Evaluated}
+use Rattle.change.specs.Change.{Changed}
 use Rattle.demands.specs.Demands.{Call, judge, points, build, check, locate, evaluate, float-answer, changed-points, point, Outcome, Reply, Lists, Implementation, CauseOf, orderOf, Demand1}
 use Rattle.demands.specs.Ours.{Asks, May}
 use Rattle.demands.specs.ByOrder.{refused-exactly}
-use Rattle.demands.specs.SixteenGiven.{count, has-slopes}
+use Rattle.demands.specs.SixteenGiven.{within, count, has-slopes, has-value}
 
 -- what comes out of a call
 abbrev pub outcome : {call : Call} → ℕ → ℕ → Reply call → Lists call → Outcome call
@@ -159,14 +166,6 @@ three = table (pos 0 ∷ pos 1 ∷ pos 2 ∷ []) (pos 0 ∷ pos 1 ∷ pos 4 ∷ 
 abbrev pub four : Table
 four = table (pos 0 ∷ pos 1 ∷ pos 2 ∷ pos 3 ∷ []) (pos 0 ∷ pos 1 ∷ pos 4 ∷ pos 7 ∷ []) (pos 256 ∷ pos 384 ∷ pos 768 ∷ pos 768 ∷ [])
 
--- the same points without slopes yet
-abbrev pub unbuilt : Table → Table
-unbuilt t = table (t .knots) (t .values) (zeros (t .knots))
-  where
-    zeros : List ℤ → List ℤ
-    zeros [] = []
-    zeros (x ∷ xs) = pos 0 ∷ zeros xs
-
 pub two-within : PointsWithin (two .knots) (two .values)
 two-within = points-by-test _ _ refl (count tt tt) tt
 
@@ -180,11 +179,46 @@ four-within = points-by-test _ _ refl (count tt tt) tt
 pub two-built : (before : List ℤ) → length before ≡ 2 → Built (two .knots) (two .values) before (two .slopes) 0 0
 two-built before l = has-slopes two-within refl l
 
-pub three-built : (before : List ℤ) → length before ≡ 3 → Built (three .knots) (three .values) before (three .slopes) 0 0
-three-built before l = has-slopes three-within refl l
-
 pub four-built : (before : List ℤ) → length before ≡ 4 → Built (four .knots) (four .values) before (four .slopes) 0 0
 four-built before l = has-slopes four-within refl l
 
 pub two-passes : Given (Holds two) checkOrder 0 0
 two-passes = a-built-table-passes-the-table-check (two-built (two .slopes) refl)
+
+-- −4 at position 1 of (0,0), (3,−10)
+pub at-1 : Belongs (two .knots) (pos 1) 0
+at-1 = inside {i = 0} (lit< tt) (leZ-yes tt) (ltZ-yes tt)
+
+pub minus-four : Evaluated two (pos 1) 0 0 (negsuc 3)
+minus-four = has-value {before = two .slopes} (within tt tt) at-1 refl (two-built (two .slopes) refl)
+
+-- ---- a verdict by the paper's test, which "prints the last test with "<" and asks for equal signs of slopes and rise"; 1, 1, 768, 768 does not pass it
+
+pub record ThePapersTest (Z a b : ℤ) : Type 0 where
+  pub starts-with-the-rise : pos 0 <ℤ a
+  pub ends-with-the-rise : pos 0 <ℤ b
+  pub one-of-four : ((a +ℤ b) ≤ℤ (pos 2 *ℤ Z)) ⊎ (((pos 2 *ℤ a +ℤ b) ≤ℤ (pos 3 *ℤ Z)) ⊎ (((a +ℤ pos 2 *ℤ b) ≤ℤ (pos 3 *ℤ Z)) ⊎ ((a *ℤ a +ℤ a *ℤ b +ℤ b *ℤ b -ℤ pos 6 *ℤ Z *ℤ (a +ℤ b) +ℤ pos 9 *ℤ (Z *ℤ Z)) <ℤ pos 0)))
+
+pub data ByThePaper (h z m n : ℤ) : Outcome (judge h z m n) → Type 0 where
+  accepted : pos 0 <ℤ z → ThePapersTest (unit *ℤ z) (m *ℤ h) (n *ℤ h) → ByThePaper h z m n (outcome 0 0 rising tt)
+  turned-away : pos 0 <ℤ z → (ThePapersTest (unit *ℤ z) (m *ℤ h) (n *ℤ h) → ⊥) → ByThePaper h z m n (outcome 0 0 bends tt)
+  otherwise : {o : Outcome (judge h z m n)} → (pos 0 <ℤ z → ⊥) → May (judge h z m n) o → ByThePaper h z m n o
+
+pub not-by-less : ThePapersTest (pos 256) (pos 768) (pos 768) → ⊥
+not-by-less t = ⊎-elim (λ l. l .le) (⊎-elim (λ l. l .le) (⊎-elim (λ l. l .le) (λ l. l .lt))) (t .one-of-four)
+
+-- "Point 0 changed to (0,−2): 768, 768, 768, 768."
+abbrev pub lowering : Change
+lowering = record { point = 0; knot = pos 0; value = negsuc 1 }
+
+abbrev pub lowered : Table
+lowered = table (four .knots) (negsuc 1 ∷ pos 1 ∷ pos 4 ∷ pos 7 ∷ []) (pos 768 ∷ pos 768 ∷ pos 768 ∷ pos 768 ∷ [])
+
+pub lowered-within : PointsWithin (lowered .knots) (lowered .values)
+lowered-within = points-by-test _ _ refl (count tt tt) tt
+
+pub is-lowered : Changed lowering four lowered 0 0
+is-lowered = record { refusal = as-changed lowering four (lit< tt) (points-accepted lowered-within refl); knots = refl; values = refl; slopes = refl }
+
+pub lowered-built : (before : List ℤ) → length before ≡ 4 → Built (lowered .knots) (lowered .values) before (lowered .slopes) 0 0
+lowered-built before l = has-slopes lowered-within refl l
