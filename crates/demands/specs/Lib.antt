@@ -1,11 +1,16 @@
+pub mod Answers
 pub mod ByOrder
 pub mod Cubic
 pub mod Demands
 pub mod Kept
 pub mod Met
 pub mod Ours
+pub mod Refuting
 pub mod Rules
 pub mod Shown
 pub mod Sixteen
 pub mod SixteenGiven
 pub mod Ties
+pub mod WrongDrives
+pub mod WrongPieces
+pub mod WrongTables
