@@ -1,5 +1,7 @@
--- What a function may answer, by its own contract, in few words: `Points t number place` is what `points` ensures of the table t where it answers this number and place. The
--- names that end in C are of the functions that C links. Where a function requires something, `Asked` is that. No list but those that are named again here is lent to be changed.
+-- What a function may answer, by its own contract, in few words: `Points t number place` is what `points` ensures of the table t where it answers this number and place. `after`
+-- are the lists that are lent to be changed, as the call leaves them. The names that end in C are of the functions that C links, and those that begin with Asked are what a
+-- function requires, where it requires anything.
+use mathlib.Core.Path.{_≡_, refl}
 use mathlib.Core.Bool.{Bool}
 use mathlib.Core.List.{List, []}
 use Prim.Native.Nat.{ℕ}
@@ -155,3 +157,27 @@ module _ (t : Table) (x : ℤ) where
   abbrev pub DrivesC : (number place kind : ℕ) (left numerator denominator : Float) → Type 0
   DrivesC number place kind left numerator denominator =
       negwafir_float_answer.Post three (lists t (x, tt)) (record { refusal = refusal number place; kind = kind; left = left; numerator = numerator; denominator = denominator }) (lists t (x, tt))
+
+-- ---- in C
+
+-- Where no record stands for an enum, C is promised just what the function below ensures: what is refuted of the one is refuted of the other.
+pub record TheSameInC : Type 1 where
+  pub points : (t : Table) (number place : ℕ) → PointsC t number place ≡ Points t number place
+  pub check : (t : Table) (number place : ℕ) → ChecksC t number place ≡ Checks t number place
+  pub build : (t : Table) (number place : ℕ) (after : List ℤ) → BuildsC t number place after ≡ Builds t number place after
+  pub changed-points : (t : Table) (c : Change) (number place : ℕ) → ChangedPointsC t c number place ≡ ChangedPoints t c number place
+  pub point : (t : Table) (c : Change) (number place : ℕ) (after : Table) → ChangesC t c number place after ≡ Changes t c number place after
+  pub locate : (t : Table) (x : ℤ) (number place piece : ℕ) → LocatesC t x number place piece ≡ Locates t x number place piece
+  pub evaluate : (t : Table) (x : ℤ) (number place : ℕ) (value : ℤ) → EvaluatesC t x number place value ≡ Evaluates t x number place value
+
+pub the-same-in-C : TheSameInC
+the-same-in-C =
+    record {
+      points = λ t number place. refl;
+      check = λ t number place. refl;
+      build = λ t number place after. refl;
+      changed-points = λ t c number place. refl;
+      point = λ t c number place after. refl;
+      locate = λ t x number place piece. refl;
+      evaluate = λ t x number place value. refl;
+    }

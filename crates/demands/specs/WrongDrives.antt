@@ -1,5 +1,6 @@
 -- Wrong programs for the float answer. Each theorem is named by one, and says that what it would tell the drive does not meet the contract of `float_answer`, or of
--- `negwafir_float_answer` which C links. `Answers.antt` says what each may answer. A float is named by the whole number that it is.
+-- `negwafir_float_answer` which C links. `Answers.antt` says what each may answer. A float is named by the whole number that it is,
+-- and each of these is one (`cast-exactly` in `Exactly.antt` of `floats`).
 use mathlib.Core.Path.{_≡_, refl, sym, _∙_, ap, subst}
 use mathlib.Core.Bool.{Bool, true, false, true≢false}
 use mathlib.Core.List.{List, [], _∷_}
@@ -98,10 +99,10 @@ a-limit-too-high a p = overlooked (p .refusal) 8 0 (too-large (in-piece 0 tt tt 
 pub falls-never-too-large : (a : Answer) → Drives (table (pos 0 ∷ pos 1024 ∷ []) (pos 0 ∷ negsuc 1024 ∷ []) (pos 0 ∷ pos 0 ∷ [])) (pos 0) 0 0 a → ⊥
 falls-never-too-large a p = overlooked (p .refusal) 8 0 (too-large (in-piece 0 tt tt tt) (record { above = ltZ-yes tt })) tt
 
--- |z|·h² held to the limit, and not |z|·h³
 abbrev large : Table
 large = table (pos 0 ∷ pos 1024 ∷ []) (pos 0 ∷ pos 1025 ∷ []) (pos 256 ∷ pos 256 ∷ [])
 
+-- |z|·h² held to the limit, and not |z|·h³
 pub the-width-squared : (a : Answer) → Drives large (pos 0) 0 0 a → ⊥
 the-width-squared a p = overlooked (p .refusal) 8 0 (too-large (in-piece 0 tt tt tt) (record { above = ltZ-yes tt })) tt
 
@@ -111,7 +112,7 @@ outside-only b (of-position h) = not-outside b h
 pub too-large-refused-by-6 : (a : Answer) → Drives large (pos 0) 6 0 a → ⊥
 too-large-refused-by-6 a p = outside-only (within tt tt) (so-it-holds (p .refusal))
 
--- at the second piece's left knot
+-- the second piece is too large, and the position at its left knot
 pub too-large-refused-at-place-0 : (a : Answer) → Drives (table (pos 0 ∷ pos 1 ∷ pos 1025 ∷ []) (pos 0 ∷ pos 0 ∷ pos 1025 ∷ []) (pos 0 ∷ pos 0 ∷ pos 0 ∷ [])) (pos 1) 8 0 a → ⊥
 too-large-refused-at-place-0 a p = not-too-large (λ l. l .above .lt) (so-it-holds (p .refusal))
 

@@ -176,7 +176,7 @@ a-step-backwards = (lit< tt, λ e. numbers-differ tt e)
 pub a-step-that-wraps : StepsNot (pos 2147483647 ∷ negsuc 2147483647 ∷ []) 0 (pos 1)
 a-step-that-wraps = (lit< tt, λ e. numbers-differ tt e)
 
--- ---- `build`, over slopes 0
+-- ---- `build`
 
 pub the-first-slope-left-as-it-was : Builds (table 0-1 0-1 0-0) 0 0 (pos 0 ∷ pos 256 ∷ []) → ⊥
 the-first-slope-left-as-it-was p = lists-differ tt (p .slopes)
@@ -193,7 +193,7 @@ the-first-slope-everywhere p = lists-differ tt (p .slopes)
 pub the-second-pieces-slope-at-the-first-point : Builds (table 0-1-2 0-1-4 0-0-0) 0 0 (pos 768 ∷ pos 384 ∷ pos 768 ∷ []) → ⊥
 the-second-pieces-slope-at-the-first-point p = lists-differ tt (p .slopes)
 
--- and the piece behind it, which isn't there, for a level one: 0, and not 256
+-- with a level piece behind it, where there is none: 0, and not 256
 pub the-last-point-taken-for-an-inner-one : Builds (table 0-1 0-1 (pos 5 ∷ pos 6 ∷ [])) 0 0 (pos 256 ∷ pos 0 ∷ []) → ⊥
 the-last-point-taken-for-an-inner-one p = lists-differ tt (p .slopes)
 
