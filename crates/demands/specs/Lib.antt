@@ -1,4 +1,5 @@
 pub mod ByOrder
+pub mod Contracts
 pub mod Cubic
 pub mod Demands
 pub mod Instances
@@ -6,6 +7,7 @@ pub mod Kept
 pub mod Met
 pub mod Ours
 pub mod Programs
+pub mod Refuting
 pub mod Rules
 pub mod Shown
 pub mod Sixteen
@@ -15,4 +17,7 @@ pub mod Wrong1
 pub mod Wrong16
 pub mod Wrong2
 pub mod Wrong3
+pub mod WrongDrives
+pub mod WrongPieces
+pub mod WrongTables
 pub mod WrongTies
