@@ -9,3 +9,5 @@ pub mod Shown
 pub mod Sixteen
 pub mod SixteenGiven
 pub mod Ties
+pub mod WrongNumbers
+pub mod WrongText
