@@ -23,7 +23,8 @@ use Rattle.drive.specs.Refused.{as-evaluated, taken-small}
 use Rattle.exports.specs.Cases.{judged, moves}
 use Rattle.demands.specs.Demands.{judge, points, build, check, locate, evaluate, float-answer, changed-points, point, Implementation}
 use Rattle.demands.specs.Ours.{ours, ours-in-C, a-move}
-use Rattle.demands.specs.SixteenGiven.{within, has-value}
+use Rattle.demands.specs.Refuting.{within}
+use Rattle.demands.specs.SixteenGiven.{has-value}
 use Rattle.demands.specs.Programs.{outcome, two, two-within, two-built, two-passes, four, lowering, lowered, is-lowered}
 
 -- 23038 and 6912 are 11519·2 and 27·2^8

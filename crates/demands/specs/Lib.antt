@@ -18,6 +18,8 @@ pub mod Wrong16
 pub mod Wrong2
 pub mod Wrong3
 pub mod WrongDrives
+pub mod WrongNumbers
 pub mod WrongPieces
 pub mod WrongTables
+pub mod WrongText
 pub mod WrongTies

@@ -3,12 +3,10 @@ use mathlib.Core.Path.{_≡_, refl}
 use mathlib.Core.Logic.{_⊎_, ⊎-elim}
 use mathlib.Core.List.{List, [], _∷_}
 use Prim.Native.Nat.{ℕ, _<_}
-use native.Mathlib.Omega.{arith}
-use lib.Dec.{T, lit<}
+use lib.Dec.{lit<}
 use lib.IntN.{ℤ, pos, negsuc, _+ℤ_, _-ℤ_, _*ℤ_}
-use lib.Signed.{_≤ℤ_, _<ℤ_, ltZ, leZ-yes, ltZ-yes}
+use lib.Signed.{_≤ℤ_, _<ℤ_, leZ-yes, ltZ-yes}
 use lib.ListN.{length}
-use Rattle.integers.specs.Linear.{lin, says}
 use Rattle.cubic.specs.Piece.{unit}
 use Rattle.rules.specs.Refusals.{Given}
 use Rattle.table.specs.declared.changed.Change.{Change}
@@ -25,7 +23,8 @@ use Rattle.change.specs.Change.{Changed}
 use Rattle.demands.specs.Demands.{Call, judge, points, build, check, locate, evaluate, float-answer, changed-points, point, Outcome, Reply, Lists, Implementation, CauseOf, orderOf, Demand1}
 use Rattle.demands.specs.Ours.{Asks, May}
 use Rattle.demands.specs.ByOrder.{refused-exactly}
-use Rattle.demands.specs.SixteenGiven.{within, count, has-slopes, has-value}
+use Rattle.demands.specs.Refuting.{within}
+use Rattle.demands.specs.SixteenGiven.{count, has-slopes, has-value}
 
 -- what comes out of a call
 abbrev pub outcome : {call : Call} → ℕ → ℕ → Reply call → Lists call → Outcome call
@@ -135,13 +134,6 @@ another-point Wrong (evaluate t x) o = May (evaluate t x) o
 another-point Wrong (float-answer t x) o = May (float-answer t x) o
 another-point Wrong (changed-points c t) o = May (changed-points c t) o
 another-point Wrong (point made c t) o = Wrong made c t o
-
--- two numbers that differ are not equal
-pub not-equal : {x y : ℤ} → T (ltZ x y) → x ≡ y → ⊥
-not-equal {x} {y} t e = below (ltZ-yes t) e
-  where
-    below : x <ℤ y → x ≡ y → ⊥
-    below = lin (x ∷ y ∷ []) (search says depth 30 fits 9000) (omega arith)
 
 -- ---- the first demand's middle sentence, both ways, of a call whose right refusal is known
 

@@ -6,7 +6,6 @@ use lib.Dec.{T, leb, lit<, lit≤}
 use lib.IntN.{ℤ, pos, negℤ, _*ℤ_}
 use lib.Signed.{_≤ℤ_, _<ℤ_, leZ, leZ-yes, ltZ-yes}
 use lib.ListN.{length}
-use Rattle.integers.specs.Promise.{Between}
 use Rattle.cubic.specs.Piece.{unit, slopeAt}
 use Rattle.cubic.specs.Test.{Short, line, oval, short-accepts}
 use Rattle.cubic.specs.Monotone.{monotone-rising, monotone-falling, monotone-level}
@@ -29,12 +28,10 @@ use Rattle.demands.specs.Demands.{judge, build, evaluate, Implementation
 use Rattle.demands.specs.Ours.{ours, ours-in-C}
 use Rattle.demands.specs.Kept.{Keeps, ours-keeps, ours-in-C-keeps}
 use Rattle.demands.specs.Met.{numberOf, placeOf, findingOf}
+use Rattle.demands.specs.Refuting.{within}
 use Rattle.demands.specs.Sixteen.{piece, slopes, value, sixteen, Gives, All, none, _&_, TheSixteen}
 
 -- ---- a piece that does not bend, by the test that decides the definition, and one that does, at a fraction where its slope is against its rise
-
-pub within : {l x h : ℤ} → T (leZ l x) → T (leZ x h) → Between l x h
-within s t = record { low = leZ-yes s; high = leZ-yes t }
 
 module _ {h z m n : ℤ} where
   rises : pos 0 <ℤ z → WidthWithin h → RiseWithin z → Short (unit *ℤ z) (m *ℤ h) (n *ℤ h) → Judged h z m n (ruling 0 0 (leaning z))

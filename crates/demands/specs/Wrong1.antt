@@ -1,5 +1,5 @@
 -- Wrong programs that break the first demand, each ours but for what is said of it. Between quotation marks are the words in which document 01 names it.
-use mathlib.Core.Path.{_≡_, refl, sym, ap}
+use mathlib.Core.Path.{_≡_, refl, ap}
 use mathlib.Core.List.{List, [], _∷_}
 use Prim.Native.Nat.{ℕ, zero, suc, _+_, _<_}
 use native.Mathlib.Omega.{arith}
@@ -18,10 +18,10 @@ use Rattle.table.specs.declared.changed.Change.{Change}
 use Rattle.table.specs.Table.{Table, table, entry, step, SameLengths, Holds, width-outside, rise-outside, not-monotone, buildOrder, checkOrder}
 use Rattle.table.specs.Accepted.{points-accepted, same-length-passes, count-passes, accepted-table}
 use Rattle.table.specs.Tested.{points-by-test}
-use Rattle.table.specs.WouldBe.{changedBy, HoldsAfter, of-points, no-such-point, changeOrder}
+use Rattle.table.specs.WouldBe.{changedBy, HoldsAfter, changeOrder}
 use Rattle.table.specs.AfterChange.{as-changed}
 use Rattle.piece.specs.Promise.{none}
-use Rattle.position.specs.Position.{Belongs, inside, HoldsAt, of-table, position-outside, evaluationOrder}
+use Rattle.position.specs.Position.{Belongs, inside, HoldsAt, evaluationOrder}
 use Rattle.position.specs.Refused.{as-checked, taken-inside}
 use Rattle.curve.specs.Curve.{Evaluated}
 use Rattle.drive.specs.Drive.{resting}
@@ -30,8 +30,9 @@ use Rattle.demands.specs.Demands.{judge, points, build, check, locate, e
 use Rattle.demands.specs.Ours.{May}
 use Rattle.demands.specs.Met.{width-taken}
 use Rattle.demands.specs.Shown.{by-a-build, by-a-check}
-use Rattle.demands.specs.SixteenGiven.{within, count, has-value}
-use Rattle.demands.specs.Programs.{outcome, answering, another-judge, another-points, another-build, another-check, another-locate, another-evaluate, another-float-answer, another-changed-points, another-point, its-cause, its-refusal, not-equal, two, two-built, four, four-within}
+use Rattle.demands.specs.SixteenGiven.{count, has-value}
+use Rattle.demands.specs.Refuting.{within, the-point-is-there, not-outside, numbers-differ}
+use Rattle.demands.specs.Programs.{outcome, answering, another-judge, another-points, another-build, another-check, another-locate, another-evaluate, another-float-answer, another-changed-points, another-point, its-cause, its-refusal, two, two-built, four, four-within, lowering}
 
 -- ======== "Any points, slopes, positions and edits may come in, from any list of any length."
 
@@ -48,21 +49,10 @@ pub a-builder-that-always-refuses : Demand1 (answering (another-build (λ t o. o
 a-builder-that-always-refuses d = count-passes (count tt tt) 0 (its-cause d (build two) (outcome 2 0 tt (two .slopes)) refl 2 (omega arith) refl)
 
 pub an-evaluation-that-always-refuses : Demand1 (answering (another-evaluate (λ t x o. o ≡ outcome 6 0 (pos 0) tt))) → ⊥
-an-evaluation-that-always-refuses d = not-outside (its-cause d (evaluate two (pos 1)) (outcome 6 0 (pos 0) tt) refl 6 (omega arith) refl)
-  where
-    not-outside : HoldsAt two (pos 1) 6 0 → ⊥
-    not-outside (of-table h) = elim h [ ]
-    not-outside (position-outside f) = f (within tt tt)
+an-evaluation-that-always-refuses d = not-outside (within tt tt) (its-cause d (evaluate two (pos 1)) (outcome 6 0 (pos 0) tt) refl 6 (omega arith) refl)
 
 pub a-change-that-always-refuses : Demand1 (answering (another-point (λ made c t o. o ≡ outcome 7 0 tt t))) → ⊥
-a-change-that-always-refuses d = there (its-cause d (point [] lowering four) (outcome 7 0 tt four) refl 7 (omega arith) refl)
-  where
-    lowering : Change
-    lowering = record { point = 0; knot = pos 0; value = negsuc 1 }
-
-    there : HoldsAfter lowering four 7 0 → ⊥
-    there (of-points h) = elim h [ ]
-    there (no-such-point f) = f (lit< tt)
+a-change-that-always-refuses d = the-point-is-there (lit< tt) (its-cause d (point [] lowering four) (outcome 7 0 tt four) refl 7 (omega arith) refl)
 
 -- ======== the other way round: a cause without its refusal, or with another number or place
 
@@ -215,8 +205,8 @@ done-at-another-place d = absurd (omega (arith, d .done-at-place-0 {call = locat
 pub a-builder-that-writes-though-it-refuses : Demand1 (answering (another-build (λ t o. Given (Holds t) buildOrder (o .number) (o .place) × (o .lists ≡ set (t .slopes) 0 (pos 0))))) → ⊥
 a-builder-that-writes-though-it-refuses d =
     let ends = opposite-ends (pos 0) (pos 0) (pos 1) (pos 1) in
-    not-equal tt (ap (λ (slopes : List ℤ). entry slopes 0) (d .changes-no-list {call = build ends} {o = outcome 3 0 tt (pos 0 ∷ pos 1 ∷ [])} (by-a-build (pos 0) (pos 0) (pos 1) (pos 1), refl) (λ e. omega (arith, e))))
+    numbers-differ tt (ap (λ (slopes : List ℤ). entry slopes 0) (d .changes-no-list {call = build ends} {o = outcome 3 0 tt (pos 0 ∷ pos 1 ∷ [])} (by-a-build (pos 0) (pos 0) (pos 1) (pos 1), refl) (λ e. omega (arith, e))))
 
 pub a-change-that-writes-though-it-refuses : Demand1 (answering (another-point (λ made c t o. Given (HoldsAfter c t) changeOrder (o .number) (o .place) × (o .lists ≡ changedBy c t)))) → ⊥
 a-change-that-writes-though-it-refuses d =
-    not-equal tt (sym (ap (λ (t : Table). entry (t .knots) 1) (d .changes-no-list {call = point [] onto-the-next four} {o = outcome 3 1 tt (changedBy onto-the-next four)} (onto-the-next-refused, refl) (λ e. omega (arith, e)))))
+    numbers-differ tt (ap (λ (t : Table). entry (t .knots) 1) (d .changes-no-list {call = point [] onto-the-next four} {o = outcome 3 1 tt (changedBy onto-the-next four)} (onto-the-next-refused, refl) (λ e. omega (arith, e))))

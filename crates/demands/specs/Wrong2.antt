@@ -1,5 +1,5 @@
 -- Wrong programs that break the second demand, each ours but for what is said of it. Between quotation marks are the words in which document 01 names it.
-use mathlib.Core.Path.{_≡_, refl, sym, subst}
+use mathlib.Core.Path.{_≡_, refl, subst}
 use mathlib.Core.List.{List, [], _∷_}
 use Prim.Native.Nat.{ℕ, _+_}
 use native.Mathlib.Omega.{arith}
@@ -31,8 +31,9 @@ use Rattle.demands.specs.Ours.{May}
 use Rattle.demands.specs.ByOrder.{none-holds}
 use Rattle.demands.specs.Cubic.{no-slope-against}
 use Rattle.demands.specs.Met.{its-value-is-exact}
-use Rattle.demands.specs.SixteenGiven.{within, count, has-slopes, has-value}
-use Rattle.demands.specs.Programs.{outcome, answering, another-judge, another-build, another-check, another-evaluate, not-equal, two, two-within, two-built, two-passes, three, three-within, at-1, minus-four, ByThePaper, turned-away, not-by-less}
+use Rattle.demands.specs.SixteenGiven.{count, has-slopes, has-value}
+use Rattle.demands.specs.Refuting.{within, numbers-differ}
+use Rattle.demands.specs.Programs.{outcome, answering, another-judge, another-build, another-check, another-evaluate, two, two-within, two-built, two-passes, three, three-within, at-1, minus-four, ByThePaper, turned-away, not-by-less}
 
 -- ======== "A piece within the limits gets a yes exactly when its cubic has no slope against its rise at any fraction of its width ..": no yes where there is to be one
 
@@ -89,7 +90,7 @@ pub level-ends-are-enough : Demand2 (answering (another-judge (λ h z m n o. o �
 level-ends-are-enough d = not-level (d .a-piece-gets-a-yes-exactly-then {o = outcome 0 0 flat tt} (within tt tt) (within tt tt) refl .0 (it-is-flat refl))
   where
     not-level : NoSlopeAgainstItsRise (pos 1) (pos 0) (pos 1) (negsuc 0) → ⊥
-    not-level s = not-equal tt (sym (s .while-level refl 1 2 (lit≤ tt) (lit≤ tt)))
+    not-level s = numbers-differ tt (s .while-level refl 1 2 (lit≤ tt) (lit≤ tt))
 
 -- ======== the same of tables: points (0,0), (1,1) with the slopes 1025, 256
 
@@ -154,7 +155,7 @@ pub an-end-slope-rounded-down : Demand2 (answering (leaving (but-at 0 (λ t. flo
 an-end-slope-rounded-down d = left d two two-within refl .each 0 (lit< tt) .first refl .size .low .le
 
 pub an-end-slope-without-its-sign : Demand2 (answering (leaving (but-at 0 (λ t. floorOf (unit *ℤ magnitude (step (t .values) 0)) (step (t .knots) 0))))) → ⊥
-an-end-slope-without-its-sign d = not-equal tt (sym (left d two two-within refl .each 0 (lit< tt) .first refl .sign))
+an-end-slope-without-its-sign d = numbers-differ tt (left d two two-within refl .each 0 (lit< tt) .first refl .sign)
 
 -- at an inner point a mean of two units for three, (0,0), (1,1), (2,4): 256
 pub a-mean-of-two-units : Demand2 (answering (leaving (but-at 1 (λ t. floorOf (pos 2 *ℤ unit *ℤ (step (t .knots) 0 +ℤ step (t .knots) 1) *ℤ step (t .values) 0 *ℤ step (t .values) 1) (meanBelow (step (t .knots) 0) (step (t .values) 0) (step (t .knots) 1) (step (t .values) 1)))))) → ⊥
@@ -166,11 +167,11 @@ sizes-alone t = mean unit (step (t .knots) 0) (magnitude (step (t .values) 0)) (
 
 pub a-mean-of-opposed-rises : Demand2 (answering (leaving (but-at 1 sizes-alone))) → ⊥
 a-mean-of-opposed-rises d =
-    not-equal tt (sym (left d (table (pos 0 ∷ pos 1 ∷ pos 2 ∷ []) (pos 0 ∷ pos 1 ∷ pos 0 ∷ []) at-rest) (points-by-test _ _ refl (count tt tt) tt) refl .each 1 (lit< tt) .inner 0 refl (lit< tt) .apart (leZ-yes tt)))
+    numbers-differ tt (left d (table (pos 0 ∷ pos 1 ∷ pos 2 ∷ []) (pos 0 ∷ pos 1 ∷ pos 0 ∷ []) at-rest) (points-by-test _ _ refl (count tt tt) tt) refl .each 1 (lit< tt) .inner 0 refl (lit< tt) .apart (leZ-yes tt))
 
 pub a-mean-without-its-sign : Demand2 (answering (leaving (but-at 1 sizes-alone))) → ⊥
 a-mean-without-its-sign d =
-    not-equal tt (sym (left d (table (pos 0 ∷ pos 1 ∷ pos 2 ∷ []) (pos 0 ∷ negsuc 0 ∷ negsuc 1 ∷ []) at-rest) (points-by-test _ _ refl (count tt tt) tt) refl .each 1 (lit< tt) .inner 0 refl (lit< tt) .sign (ltZ-yes tt)))
+    numbers-differ tt (left d (table (pos 0 ∷ pos 1 ∷ pos 2 ∷ []) (pos 0 ∷ negsuc 0 ∷ negsuc 1 ∷ []) at-rest) (points-by-test _ _ refl (count tt tt) tt) refl .each 1 (lit< tt) .inner 0 refl (lit< tt) .sign (ltZ-yes tt))
 
 -- ======== "The position you answer is the exact cubic, rounded down."
 
@@ -210,15 +211,15 @@ mirrored h z m n t = risen unit h z n m t
 
 -- "an evaluation that answers the left value (demand 2)"
 pub an-evaluation-that-answers-the-left-value : Demand2 (answering (rising-by nothing-more)) → ⊥
-an-evaluation-that-answers-the-left-value d = not-equal tt (sym (the-same nothing-more d two-within (two-built (two .slopes) refl) at-1 minus-four))
+an-evaluation-that-answers-the-left-value d = numbers-differ tt (the-same nothing-more d two-within (two-built (two .slopes) refl) at-1 minus-four)
 
 -- "Dividing toward zero on a falling piece, which gives −3 in place of −4."
 pub division-toward-zero-on-a-fall : Demand2 (answering (rising-by toward-zero)) → ⊥
-division-toward-zero-on-a-fall d = not-equal tt (sym (the-same toward-zero d two-within (two-built (two .slopes) refl) at-1 minus-four))
+division-toward-zero-on-a-fall d = numbers-differ tt (the-same toward-zero d two-within (two-built (two .slopes) refl) at-1 minus-four)
 
 -- the two slopes exchanged: (0,0), (4,4), (8,40) have 0 at position 1, and not 1
 pub a-mirrored-cubic : Demand2 (answering (rising-by mirrored)) → ⊥
-a-mirrored-cubic d = not-equal tt (sym (the-same mirrored d steep-within steep-built at-its-1 (has-value {before = ss} (within tt tt) at-its-1 refl steep-built)))
+a-mirrored-cubic d = numbers-differ tt (the-same mirrored d steep-within steep-built at-its-1 (has-value {before = ss} (within tt tt) at-its-1 refl steep-built))
   where
     ks : List ℤ
     ks = pos 0 ∷ pos 4 ∷ pos 8 ∷ []

@@ -1,5 +1,5 @@
 -- Wrong programs that break the third demand, each ours but for what is said of it. Between quotation marks are the words in which document 01 names it.
-use mathlib.Core.Path.{_≡_, refl, sym, ap}
+use mathlib.Core.Path.{_≡_, refl, ap}
 use mathlib.Core.Logic.{inr, ⊎-elim}
 use mathlib.Core.List.{List, [], _∷_, _++_}
 use Prim.Native.Nat.{ℕ, zero, suc, _-_}
@@ -18,7 +18,8 @@ use Rattle.slopes.specs.Slopes.{builtSlopes}
 use Rattle.change.specs.Change.{Changed}
 use Rattle.demands.specs.Demands.{Call, point, Outcome, none, next, JustThis, Demand3}
 use Rattle.demands.specs.SixteenGiven.{count}
-use Rattle.demands.specs.Programs.{outcome, answering, another-point, not-equal, four, four-built, lowering, lowered, lowered-within, is-lowered, lowered-built}
+use Rattle.demands.specs.Refuting.{numbers-differ}
+use Rattle.demands.specs.Programs.{outcome, answering, another-point, four, four-built, lowering, lowered, lowered-within, is-lowered, lowered-built}
 
 -- A change that refuses as ours does, and where it does not leaves something in place of what ours leaves; it may go by the changes made before.
 abbrev pub when-done : ℕ → (old new : Table) → Table
@@ -60,7 +61,7 @@ abbrev pub nothing : List Change → Change → (before ours : Table) → Table
 nothing made c t u = t
 
 pub a-change-that-writes-nothing-and-reports-0 : Demand3 (answering (leaving nothing)) → ⊥
-a-change-that-writes-nothing-and-reports-0 d = not-equal tt (sym (to-be nothing d [] lowering four is-lowered .value))
+a-change-that-writes-nothing-and-reports-0 d = numbers-differ tt (to-be nothing d [] lowering four is-lowered .value)
 
 -- "a chain of changes right at its first .. and idle afterwards"
 abbrev pub only-the-first : List Change → Change → (before ours : Table) → Table
@@ -68,13 +69,13 @@ only-the-first [] c t u = u
 only-the-first (before ∷ made) c t u = t
 
 pub a-chain-idle-after-its-first-change : Demand3 (answering (leaving only-the-first)) → ⊥
-a-chain-idle-after-its-first-change d = not-equal tt (sym (to-be only-the-first d (moving ∷ []) lowering four is-lowered .value))
+a-chain-idle-after-its-first-change d = numbers-differ tt (to-be only-the-first d (moving ∷ []) lowering four is-lowered .value)
 
 abbrev pub the-old-knot : List Change → Change → (before ours : Table) → Table
 the-old-knot made c t u = table (t .knots) (u .values) (u .slopes)
 
 pub a-knot-that-is-not-put : Demand3 (answering (leaving the-old-knot)) → ⊥
-a-knot-that-is-not-put d = not-equal tt (to-be the-old-knot d [] moving four is-moved .knot)
+a-knot-that-is-not-put d = numbers-differ tt (to-be the-old-knot d [] moving four is-moved .knot)
 
 -- "After a change, renewing only the slope of the changed point."
 abbrev pub its-slope-alone : List Change → Change → (before ours : Table) → Table
@@ -93,20 +94,20 @@ abbrev pub the-last-knot-too : List Change → Change → (before ours : Table) 
 the-last-knot-too made c t u = table (set (u .knots) 3 (pos 9)) (u .values) (u .slopes)
 
 pub another-knot-moved : Demand3 (answering (leaving the-last-knot-too)) → ⊥
-another-knot-moved d = not-equal tt (sym (to-be the-last-knot-too d [] lowering four is-lowered .other-knots 3 (λ e. omega (arith, e))))
+another-knot-moved d = numbers-differ tt (to-be the-last-knot-too d [] lowering four is-lowered .other-knots 3 (λ e. omega (arith, e)))
 
 abbrev pub the-last-value-too : List Change → Change → (before ours : Table) → Table
 the-last-value-too made c t u = table (u .knots) (set (u .values) 3 (pos 9)) (u .slopes)
 
 pub another-value-changed : Demand3 (answering (leaving the-last-value-too)) → ⊥
-another-value-changed d = not-equal tt (sym (to-be the-last-value-too d [] lowering four is-lowered .other-values 3 (λ e. omega (arith, e))))
+another-value-changed d = numbers-differ tt (to-be the-last-value-too d [] lowering four is-lowered .other-values 3 (λ e. omega (arith, e)))
 
 -- a build in place of a change, where the last slope, 1, is somebody else's
 abbrev pub every-slope : List Change → Change → (before ours : Table) → Table
 every-slope made c t u = table (u .knots) (u .values) (builtSlopes (u .knots) (u .values))
 
 pub every-slope-renewed : Demand3 (answering (leaving every-slope)) → ⊥
-every-slope-renewed d = not-equal tt (sym (to-be every-slope d [] lowering foreign changed .other-slopes 3 (lit< tt) (λ n. omega (arith, n .behind))))
+every-slope-renewed d = numbers-differ tt (to-be every-slope d [] lowering foreign changed .other-slopes 3 (lit< tt) (λ n. omega (arith, n .behind)))
   where
     foreign : Table
     foreign = table (four .knots) (four .values) (pos 256 ∷ pos 384 ∷ pos 768 ∷ pos 1 ∷ [])
@@ -142,8 +143,8 @@ a-slope-added d = absurd (omega (arith, to-be one-more-slope d [] lowering four 
 pub slopes-that-are-not-those-built-afresh : Demand3 (answering (leaving its-slope-alone)) → ⊥
 slopes-that-are-not-those-built-afresh d =
     let left = its-slope-alone [] lowering four lowered in
-    not-equal tt (sym (ap (λ (slopes : List ℤ). entry slopes 1) (d .the-slopes-equal-those-built-afresh {t = four} {o = outcome 0 0 tt (four .slopes)} {changes = lowering ∷ []} {u = left} {again = four .slopes} {p = outcome 0 0 tt (lowered .slopes)}
-    (four-built (four .slopes) refl) refl (next {o = outcome 0 0 tt left} (lowered, (is-lowered, refl)) none) refl (lowered-built (four .slopes) refl) .1)))
+    numbers-differ tt (ap (λ (slopes : List ℤ). entry slopes 1) (d .the-slopes-equal-those-built-afresh {t = four} {o = outcome 0 0 tt (four .slopes)} {changes = lowering ∷ []} {u = left} {again = four .slopes} {p = outcome 0 0 tt (lowered .slopes)}
+    (four-built (four .slopes) refl) refl (next {o = outcome 0 0 tt left} (lowered, (is-lowered, refl)) none) refl (lowered-built (four .slopes) refl) .1))
 
 -- ======== "It is refused exactly when a fresh build of the changed points would be, or the point isn't there."
 

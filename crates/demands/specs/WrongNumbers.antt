@@ -1,0 +1,146 @@
+-- Wrong programs with numbers, each refuted by what it would answer to one call: `division-toward-zero : floor-div (negsuc 9) (pos 3) (negsuc 2) → ⊥` says that a program
+-- which answers −3 to the division of −10 by 3 does not meet the promise, neither that of `floor_div` nor that of `negwafir_floor_div`, which C links. A call is written by its
+-- arguments and what may be answered to it, last. `Demands.antt` says how to read the rest.
+use mathlib.Core.Path.{refl}
+use mathlib.Core.Bool.{Bool, true, false}
+use mathlib.Core.Logic.{_⊎_, inl, inr}
+use Prim.Native.Nat.{ℕ}
+use native.Mathlib.Omega.{arith}
+use lib.IntN.{ℤ, pos, negsuc}
+use Rattle.integers.specs.Decided.{told, denied}
+use Rattle.demands.specs.Refuting.{within, numbers-differ}
+use Rattle.integers.proofs.difference.Reads as integers·difference
+use Rattle.integers.proofs.between.Reads as integers·between
+use Rattle.integers.proofs.floor_div.Reads as integers·floor_div
+use Rattle.rules.proofs.count_within.Reads as rules·count_within
+use Rattle.rules.proofs.width_within.Reads as rules·width_within
+use Rattle.rules.proofs.rise_within.Reads as rules·rise_within
+use Rattle.exports.proofs.negwafir_difference.Reads as exports·negwafir_difference
+use Rattle.exports.proofs.negwafir_between.Reads as exports·negwafir_between
+use Rattle.exports.proofs.negwafir_floor_div.Reads as exports·negwafir_floor_div
+use Rattle.exports.proofs.negwafir_count_within.Reads as exports·negwafir_count_within
+use Rattle.exports.proofs.negwafir_width_within.Reads as exports·negwafir_width_within
+use Rattle.exports.proofs.negwafir_rise_within.Reads as exports·negwafir_rise_within
+
+-- of two promises that are one definition
+pub either : {A : Type 0} → A ⊎ A → A
+either (inl a) = a
+either (inr a) = a
+
+-- ---- integers::difference
+
+abbrev difference : ℤ → ℤ → (r : ℤ) → Type 0
+difference left right r = integers·difference.Post tt (left, (right, tt)) r (left, (right, tt)) ⊎ exports·negwafir_difference.Post tt (left, (right, tt)) r (left, (right, tt))
+
+-- from 2147483647 to −2147483648 the difference is −4294967295, which wraps to 1 in 32 bits
+pub difference-in-32-bits : difference (pos 2147483647) (negsuc 2147483647) (pos 1) → ⊥
+difference-in-32-bits p = numbers-differ tt (either p)
+
+-- from 0 to 3 the difference is 3, and not −3
+pub left-minus-right : difference (pos 0) (pos 3) (negsuc 2) → ⊥
+left-minus-right p = numbers-differ tt (either p)
+
+-- ---- integers::between
+
+abbrev between : ℤ → ℤ → ℤ → (r : Bool) → Type 0
+between low x high r = integers·between.Post tt (low, (x, (high, tt))) r (low, (x, (high, tt))) ⊎ exports·negwafir_between.Post tt (low, (x, (high, tt))) r (low, (x, (high, tt)))
+
+-- 1024 lies between 1 and 1024
+pub high-end-left-out : between (pos 1) (pos 1024) (pos 1024) false → ⊥
+high-end-left-out p = denied (either p) refl (within tt tt)
+
+-- 1 lies between 1 and 1024
+pub low-end-left-out : between (pos 1) (pos 1) (pos 1024) false → ⊥
+low-end-left-out p = denied (either p) refl (within tt tt)
+
+-- 0 does not lie between 1 and 1024
+pub taken-below-the-low-end : between (pos 1) (pos 0) (pos 1024) true → ⊥
+taken-below-the-low-end p = told (either p) refl .low .le
+
+-- 1025 does not lie between 1 and 1024
+pub taken-above-the-high-end : between (pos 1) (pos 1025) (pos 1024) true → ⊥
+taken-above-the-high-end p = told (either p) refl .high .le
+
+-- 5 lies between 0 and 9, though 0 does not lie between 5 and 9
+pub number-for-its-low-end : between (pos 0) (pos 5) (pos 9) false → ⊥
+number-for-its-low-end p = denied (either p) refl (within tt tt)
+
+-- ---- integers::floor_div
+
+abbrev floor-div : ℤ → ℤ → (r : ℤ) → Type 0
+floor-div n d r = integers·floor_div.Post tt (n, (d, tt)) r (n, (d, tt)) ⊎ exports·negwafir_floor_div.Post tt (n, (d, tt)) r (n, (d, tt))
+
+-- −10 divided by 3 is −4, rounded down, and not −3
+pub division-toward-zero : floor-div (negsuc 9) (pos 3) (negsuc 2) → ⊥
+division-toward-zero p = numbers-differ tt (either p .is)
+
+-- −9 divided by 3 is −3, with nothing left over, and not −4
+pub exact-quotient-too-low : floor-div (negsuc 8) (pos 3) (negsuc 3) → ⊥
+exact-quotient-too-low p = numbers-differ tt (either p .is)
+
+-- 7 divided by 2 is 3, and 2 divided by 7 is 0
+pub divisor-for-dividend : floor-div (pos 7) (pos 2) (pos 0) → ⊥
+divisor-for-dividend p = numbers-differ tt (either p .is)
+
+-- by a divisor below 1 the answer is 0: 7 by −2 is not −4, which is −3.5 rounded down
+pub divided-by-a-negative : floor-div (pos 7) (negsuc 1) (negsuc 3) → ⊥
+divided-by-a-negative p = numbers-differ tt (either p .is)
+
+-- and 7 by 0 is not 7
+pub dividend-over-zero : floor-div (pos 7) (pos 0) (pos 7) → ⊥
+dividend-over-zero p = numbers-differ tt (either p .is)
+
+-- ---- rules::count_within
+
+abbrev count-within : ℕ → (r : Bool) → Type 0
+count-within n r = rules·count_within.Post tt (n, tt) r (n, tt) ⊎ exports·negwafir_count_within.Post tt (n, tt) r (n, tt)
+
+-- 1,025 points are one too many
+pub a-point-too-many : count-within 1025 true → ⊥
+a-point-too-many p = omega (arith, told (either p) refl .high)
+
+-- one point is too few
+pub one-point-is-enough : count-within 1 true → ⊥
+one-point-is-enough p = omega (arith, told (either p) refl .low)
+
+-- no points are too few: it is the number given that is asked about
+pub any-count-within : count-within 0 true → ⊥
+any-count-within p = omega (arith, told (either p) refl .low)
+
+-- 1,024 points are within the limits
+pub most-points-refused : count-within 1024 false → ⊥
+most-points-refused p = denied (either p) refl (record { low = omega arith; high = omega arith })
+
+-- ---- rules::width_within
+
+abbrev width-within : ℤ → (r : Bool) → Type 0
+width-within h r = rules·width_within.Post tt (h, tt) r (h, tt) ⊎ exports·negwafir_width_within.Post tt (h, tt) r (h, tt)
+
+-- 0 is no width
+pub width-zero-taken : width-within (pos 0) true → ⊥
+width-zero-taken p = told (either p) refl .low .le
+
+-- 1 is a width: not every one is refused, and the answer is not turned round
+pub every-width-refused : width-within (pos 1) false → ⊥
+every-width-refused p = denied (either p) refl (within tt tt)
+
+-- 1,025 is no width
+pub width-one-too-large : width-within (pos 1025) true → ⊥
+width-one-too-large p = told (either p) refl .high .le
+
+-- ---- rules::rise_within
+
+abbrev rise-within : ℤ → (r : Bool) → Type 0
+rise-within z r = rules·rise_within.Post tt (z, tt) r (z, tt) ⊎ exports·negwafir_rise_within.Post tt (z, tt) r (z, tt)
+
+-- 1,048,577 is no rise: not every number is one
+pub rise-one-too-large : rise-within (pos 1048577) true → ⊥
+rise-one-too-large p = told (either p) refl .high .le
+
+-- −1,048,576 is a rise
+pub least-rise-refused : rise-within (negsuc 1048575) false → ⊥
+least-rise-refused p = denied (either p) refl (within tt tt)
+
+-- −1,048,577 is no rise
+pub fall-one-too-large : rise-within (negsuc 1048576) true → ⊥
+fall-one-too-large p = told (either p) refl .low .le
