@@ -1,6 +1,7 @@
--- "Change one point of a table whose slopes we built, any number of times, refused changes among them: the slopes then equal those built afresh."
+-- "Change one point of a table whose slopes you built, any number of times, refused changes among them: the slopes then equal those built afresh from the points as they
+-- stand."
 use mathlib.Core.Path.{_≡_, refl, sym, subst₂}
-use mathlib.Core.List.{List, [], _∷_, _++_}
+use mathlib.Core.List.{List, [], _∷_}
 use Prim.Native.Nat.{ℕ, zero, suc}
 use lib.IntN.{ℤ}
 use lib.ListN.{length}
@@ -10,39 +11,12 @@ use Rattle.table.specs.Accepted.{PointsWithin, accepted-points, points-accepted
 use Rattle.table.specs.AfterChange.{accepted-then}
 use Rattle.slopes.specs.Slopes.{Built}
 use Rattle.change.specs.Change.{Changed}
-use Rattle.change.specs.Found.{every-change-leaves-a-table}
 use Rattle.change.specs.StaysBuilt.{AllBuilt, all-are-then-as-built}
 
 -- A list of changes, made one after another: each of the table that the one before it left, with whatever it answers.
 pub data Chain : List Change → (before after : Table) → Type 0 where
   none : {t : Table} → Chain [] t t
   next : {c : Change} {cs : List Change} {t u v : Table} {number place : ℕ} → Changed c t u number place → Chain cs u v → Chain (c ∷ cs) t v
-
--- Every list of changes can be made, of any table.
-pub record SomeChain (cs : List Change) (before : Table) : Type 0 where
-  pub after : Table
-  pub chain : Chain cs before after
-
-pub every-list-of-changes-has-a-chain : (cs : List Change) (before : Table) → SomeChain cs before
-every-list-of-changes-has-a-chain [] t = record { after = t; chain = none }
-every-list-of-changes-has-a-chain (c ∷ cs) t =
-    let first = every-change-leaves-a-table c t in
-    let others = every-list-of-changes-has-a-chain cs (first .after) in
-    record { after = others .after; chain = next (first .changed) (others .chain) }
-
--- No change of a list is left out: the last is made of the table that the others left.
-pub record MadeLast (cs : List Change) (c : Change) (before after : Table) : Type 0 where
-  pub others : Table
-  pub number : ℕ
-  pub place : ℕ
-  pub change : Changed c others after number place
-  pub chain : Chain cs before others
-
-pub the-last-is-made : (cs : List Change) {c : Change} {t u : Table} → Chain (cs ++ c ∷ []) t u → MadeLast cs c t u
-the-last-is-made [] (next change none) = record { others = _; number = _; place = _; change = change; chain = none }
-the-last-is-made (d ∷ cs) (next change chain) =
-    let m = the-last-is-made cs chain in
-    record { others = m .others; number = m .number; place = m .place; change = m .change; chain = next change (m .chain) }
 
 -- A table whose points are accepted and whose slopes are all as built from them.
 pub record BuiltTable (t : Table) : Type 0 where

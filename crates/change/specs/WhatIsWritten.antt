@@ -1,4 +1,4 @@
--- "Each accepted change puts the new knot and value there, renews the slopes at it and beside it, and touches nothing else."
+-- "Each accepted change puts the new knot and value at that point, renews the slopes at it and beside it, and touches nothing else."
 use mathlib.Core.Path.{_≡_, refl, sym, _∙_, ap, ap₂}
 use mathlib.Core.Bool.{Bool, true, false, cond}
 use mathlib.Core.List.{List}

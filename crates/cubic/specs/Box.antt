@@ -19,7 +19,7 @@ box-accepts {Z} {a} {b} z₀ a₀ b₀ a₁ b₁ =
 pub meanBelow-mirrored : (h₁ z₁ h₂ z₂ : ℤ) → meanBelow h₁ z₁ h₂ z₂ ≡ meanBelow h₂ z₂ h₁ z₁
 meanBelow-mirrored h₁ z₁ h₂ z₂ = ring (h₁ ∷ z₁ ∷ h₂ ∷ z₂ ∷ []) (search quote depth 30 fits 9000) tt
 
--- a slope m not above the mean "3U·(h1 + h2)·z1·z2 / (..)" is at most three times the left piece's own, whatever the unit U; by `meanBelow-mirrored`
+-- a slope m not above the mean 3U·(h1 + h2)·z1·z2 / (..) is at most three times the left piece's own, whatever the unit U; by `meanBelow-mirrored`
 -- at most three times the right piece's
 pub mean-in-box : {U h₁ z₁ h₂ z₂ m : ℤ} → pos 0 ≤ℤ U → pos 0 <ℤ h₁ → pos 0 <ℤ z₁ → pos 0 <ℤ h₂ → pos 0 <ℤ z₂ → pos 0 ≤ℤ m → (m *ℤ meanBelow h₁ z₁ h₂ z₂) ≤ℤ (pos 3 *ℤ U *ℤ (h₁ +ℤ h₂) *ℤ z₁ *ℤ z₂) → (m *ℤ h₁) ≤ℤ (pos 3 *ℤ (U *ℤ z₁))
 mean-in-box {U} {h₁} {z₁} {h₂} {z₂} {m} u₀ h₁₀ z₁₀ h₂₀ z₂₀ m₀ s =

@@ -9,7 +9,7 @@ use Rattle.rules.specs.Refusals.{Given, Answered}
 use Rattle.table.specs.Table.{Table, entry, step}
 use Rattle.position.specs.Position.{Belongs, HoldsAt, evaluationOrder}
 
--- what the cubic of piece i has risen by at the position, rounded to a whole number, "with t = position − left knot"
+-- what the cubic of piece i has risen by at the position, rounded to a whole number, "With t = position − left knot"
 abbrev pub risenOn : Table → ℕ → ℤ → ℤ
 risenOn t i x =
     risen unit (step (t .knots) i) (step (t .values) i) (entry (t .slopes) i) (entry (t .slopes) (i + 1)) (x -ℤ entry (t .knots) i)

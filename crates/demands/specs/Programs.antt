@@ -11,15 +11,15 @@ use Rattle.cubic.specs.Piece.{unit}
 use Rattle.rules.specs.Refusals.{Given}
 use Rattle.table.specs.declared.changed.Change.{Change}
 use Rattle.table.specs.Table.{Table, table, Holds, checkOrder}
-use Rattle.table.specs.Accepted.{PointsWithin, points-accepted}
+use Rattle.table.specs.Accepted.{PointsWithin}
 use Rattle.table.specs.Tested.{points-by-test}
-use Rattle.table.specs.AfterChange.{as-changed}
 use Rattle.piece.specs.Promise.{rising, bends}
 use Rattle.slopes.specs.Slopes.{Built}
 use Rattle.slopes.specs.EveryPiece.{a-built-table-passes-the-table-check}
 use Rattle.position.specs.Position.{Belongs, inside}
 use Rattle.curve.specs.Curve.{Evaluated}
 use Rattle.change.specs.Change.{Changed}
+use Rattle.change.specs.Figures.{point-0-lowered}
 use Rattle.demands.specs.Demands.{Call, judge, points, build, check, locate, evaluate, float-answer, changed-points, point, Outcome, Reply, Lists, Implementation, CauseOf, orderOf, Demand1}
 use Rattle.demands.specs.Ours.{Asks, May}
 use Rattle.demands.specs.ByOrder.{refused-exactly}
@@ -148,7 +148,7 @@ module _ {I : Implementation} (d : Demand1 I) (call : Call) (o : Outcome call) (
 
 -- ---- tables
 
--- "PointsWithin (0,0), (3,−10) have slopes −853, −853", "(0,0), (1,1), (2,4) have slopes 256, 384, 768", and "(0,0), (1,1), (2,4), (3,7) have slopes 256, 384, 768, 768"
+-- "points (0,0), (3,−10) have slopes −853, −853", "(0,0), (1,1), (2,4) have slopes 256, 384, 768", and "(0,0), (1,1), (2,4), (3,7) have slopes 256, 384, 768, 768"
 abbrev pub two : Table
 two = table (pos 0 ∷ pos 3 ∷ []) (pos 0 ∷ negsuc 9 ∷ []) (negsuc 852 ∷ negsuc 852 ∷ [])
 
@@ -210,7 +210,7 @@ pub lowered-within : PointsWithin (lowered .knots) (lowered .values)
 lowered-within = points-by-test _ _ refl (count tt tt) tt
 
 pub is-lowered : Changed lowering four lowered 0 0
-is-lowered = record { refusal = as-changed lowering four (lit< tt) (points-accepted lowered-within refl); knots = refl; values = refl; slopes = refl }
+is-lowered = point-0-lowered
 
 pub lowered-built : (before : List ℤ) → length before ≡ 4 → Built (lowered .knots) (lowered .values) before (lowered .slopes) 0 0
 lowered-built before l = has-slopes lowered-within refl l

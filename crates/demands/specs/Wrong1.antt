@@ -19,10 +19,10 @@ use Rattle.table.specs.Table.{Table, table, entry, step, SameLengths, Holds, wi
 use Rattle.table.specs.Accepted.{points-accepted, same-length-passes, count-passes, accepted-table}
 use Rattle.table.specs.Tested.{points-by-test}
 use Rattle.table.specs.WouldBe.{changedBy, HoldsAfter, changeOrder}
-use Rattle.table.specs.AfterChange.{as-changed}
 use Rattle.piece.specs.Promise.{none}
 use Rattle.position.specs.Position.{Belongs, inside, HoldsAt, evaluationOrder}
 use Rattle.position.specs.Refused.{as-checked, taken-inside}
+use Rattle.change.specs.Figures.{point-1-moved-onto-point-2}
 use Rattle.curve.specs.Curve.{Evaluated}
 use Rattle.drive.specs.Drive.{resting}
 use Rattle.drive.specs.Refused.{as-evaluated, refused-large}
@@ -105,8 +105,7 @@ abbrev onto-the-next : Change
 onto-the-next = record { point = 1; knot = pos 2; value = pos 1 }
 
 onto-the-next-refused : Given (HoldsAfter onto-the-next four) changeOrder 3 1
-onto-the-next-refused =
-    as-changed onto-the-next four (lit< tt) (second-width {t = changedBy onto-the-next four} (record { values = refl; slopes = refl }) (count tt tt) (lit< tt) (within tt tt) (λ w. w .low .le))
+onto-the-next-refused = point-1-moved-onto-point-2 .refusal
 
 pub a-change-asked-of-the-old-points : Demand1 (answering (another-changed-points (λ c t o. Given (Holds t) buildOrder (o .number) (o .place)))) → ⊥
 a-change-asked-of-the-old-points d =

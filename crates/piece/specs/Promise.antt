@@ -29,7 +29,7 @@ leaning (pos zero) = flat
 leaning (pos (suc n)) = rising
 leaning (negsuc n) = falling
 
--- The right ruling for a piece. "One piece: 3, 4", the first cause that holds, at place 0; else monotone by the definition, or it bends.
+-- The right ruling for a piece. "one piece: 3, 4", the first cause that holds, at place 0; else monotone by the definition, or it bends.
 pub data Judged (h z m n : ℤ) : Ruling → Type 0 where
   width-refused : (WidthWithin h → ⊥) → Judged h z m n (ruling 3 0 none)
   rise-refused : WidthWithin h → (RiseWithin z → ⊥) → Judged h z m n (ruling 4 0 none)

@@ -70,6 +70,6 @@ module _ {ks vs : List ℤ} (p : PointsWithin ks vs) where
   pub one-piece : {x : ℤ} {i j : ℕ} → Belongs ks x i → Belongs ks x j → i ≡ j
   one-piece b c = neither-less (not-before b c) (not-before c b)
 
-  -- "a position at an inner knot belongs to the piece that starts there", and so does one at the first
+  -- "A position at an inner knot belongs to the piece that starts there", and so does one at the first
   pub knot-starts-its-piece : (k : ℕ) → k + 1 < length ks → Belongs ks (entry ks k) k
   knot-starts-its-piece k l = inside l (≤ℤ-refl (entry ks k)) (next k l)

@@ -26,7 +26,7 @@ pub record Up (h z : ℤ) : Type 0 where
 pub record Mean (h₁ z₁ h₂ z₂ m : ℤ) : Type 0 where
   pub is : m ≡ mean unit h₁ z₁ h₂ z₂
 
--- "at most three times as steep as the piece" is at most three units times the largest rise
+-- at most three times as steep as the piece is at most three units times the largest rise
 pub mean-within : {h₁ z₁ h₂ z₂ : ℤ} → Up h₁ z₁ → Up h₂ z₂ → Within 805306368 (mean unit h₁ z₁ h₂ z₂)
 mean-within {h₁} {z₁} {h₂} {z₂} a b =
     let m₀ = 0≤-mean {U = unit} (ltZ-yes tt) (0<-width (a .within .width)) (0<-width (b .within .width)) (a .up) (b .up) in
