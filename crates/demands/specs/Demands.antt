@@ -4,22 +4,30 @@
 -- How to read it:
 --   A → B, A ↔ B, A × B, A ⊎ B    if A then B; A exactly if B; A and B; A or B
 --   A → ⊥, x ≡ y                  not A; x equals y
---   (i : ℕ) → A                   A for every whole number i from 0 on; ℤ has the negative ones too. {..} in place of (..) says the same
---   pos n, negsuc n               n, and −(n + 1), as numbers of ℤ; +ℤ, -ℤ, *ℤ, ≤ℤ, <ℤ their arithmetic and order, products before sums
+--   (i : ℕ) → A, (i : ℕ) × A      A for every i; there is an i of which A holds. {i : ℕ} in place of (i : ℕ) says the same
+--   ℕ, ℤ, pos n, negsuc n         whole numbers from 0 on, and with the negative ones: n, and −(n + 1), as numbers of ℤ
+--   +ℤ, -ℤ, *ℤ, ≤ℤ, <ℤ            their arithmetic and order; products go before sums
 --   x ∷ y ∷ [], xs ++ ys          the list of x and y; one list behind another
---   length, entry, step           how long a list is; its entry i, from 0; entry i + 1 less entry i: piece i's width, of the knots, or its rise, of the values
---   r .field, record, data        what the record r holds there; all of the lines below it hold; one of the lines below it holds
---   table ks vs ss, changedBy c t a table of three lists; its points as they would be after the change c
+--   length, entry, step           how long a list is; its entry i, from 0; entry i + 1 less entry i: of the knots the width of piece i, of the values its rise
+--   r .field                      what the record r holds under that name
+--   record R : Type 0 where ..    R holds if all of the lines below it do
+--   data D : .. where ..          D holds if one of the lines below it does, each with its name before the colon
+--   abbrev f : .., f x = y        f is short for what stands behind the sign
+--   Unit, tt                      nothing, where nothing is to be said
+--   Table, table ks vs ss         the three lists of a table: knots, values, slopes
+--   Change, changedBy c t         a change: the number of a point, its new knot and value; the table t with its points as they would be after the change c
+--   Finding, Telling              a verdict: rising, falling, flat, bends, or none where it is refused; what the drive is told: a dwell or a move
 --   Holds, HoldsAt, HoldsFor,     the cause with a number holds at a place: of a table, at a position, for a float answer, and of the points as they would be after
 --     HoldsAfter                  a change (`Table.antt` and `WouldBe.antt` of `table`, `Position.antt` of `position`, `Drive.antt` of `drive`)
 --   WidthWithin, RiseWithin       the limits of document 01 (`Limits.antt` of `rules`)
 --   SFits w32 x                   x is a signed number of 32 bits
---   (o : A) × B                   there is an o of which B holds
 --   Belongs ks x i                the position x belongs to piece i: a knot to the piece that starts there, and the last one to the last piece (`Position.antt`)
 --   Near k i                      i is k − 1, k or k + 1 (`Beside.antt` of `change`)
 --   slopeAt, riseAt, unit         the slope of a piece's cubic and the cubic, at a fraction of the width, and 256 (`Piece.antt` of `cubic`)
---   Floor n d q                   q is n/d rounded down: q·d ≤ n < (q + 1)·d; magnitude x is x without its sign, and withSign z x is x with the sign of z
--- What our own functions promise, `Given`, `Judged`, `Built`, `Located`, `Evaluated`, `Driving` and `Changed`, is not needed here: `Ours.antt` ties it to these words.
+--   Floor n d q                   q is n/d rounded down: q·d ≤ n < (q + 1)·d
+--   magnitude x, withSign z x     x without its sign; x with the sign of z
+-- `Met.antt` also has the words in which our own functions promise what they do. They are not used here: `Given` says which number and place an order of causes gives, `Judged`, `Built`,
+-- `Located`, `Evaluated`, `Driving` and `Changed` what comes out of a verdict, a build, .. and a change, and `Chain` that a list of such changes is made one after another.
 use mathlib.Core.Path.{_≡_}
 use mathlib.Core.Logic.{_↔_, _⊎_}
 use mathlib.Core.List.{List, [], _∷_, _++_}
