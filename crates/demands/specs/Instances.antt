@@ -1,5 +1,5 @@
--- A worked instance of each call's promise, for the Rattle functions and for those that C links: none of the promises is one that nothing meets. Those of text have theirs in
--- `Examples.antt` of `words` and of `decimals`.
+-- A worked instance of each call's promise, for the Rattle functions and for those that C links: none of the promises is one that nothing meets. `InstancesBelow.antt` has those of
+-- the other functions.
 use mathlib.Core.Path.{refl}
 use mathlib.Core.Bool.{true, false}
 use mathlib.Core.List.{[], _∷_}

@@ -3,6 +3,7 @@ pub mod Contracts
 pub mod Cubic
 pub mod Demands
 pub mod Instances
+pub mod InstancesBelow
 pub mod Kept
 pub mod Met
 pub mod Ours

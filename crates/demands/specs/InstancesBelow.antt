@@ -1,0 +1,110 @@
+-- A worked instance of what each function below the tables ensures, as `Instances.antt` has them of the calls over pieces and tables: none of these promises is one that nothing
+-- meets. The functions that C links have the same contracts, or a record for an enum that `Cases.antt` of `exports` spells out. Text is the list of its bytes, as in `WrongText.antt`.
+use mathlib.Core.Path.{refl}
+use mathlib.Core.Bool.{true}
+use mathlib.Core.List.{List, [], _∷_}
+use Prim.Native.Nat.{ℕ}
+use lib.Dec.{lit<}
+use lib.IntN.{pos, negsuc}
+use lib.Signed.{leZ-yes, ltZ-yes}
+use denote.Ref.{RefT}
+use Rattle.integers.specs.Promise.{holds}
+use Rattle.cubic.specs.Monotone.{monotone-rising}
+use Rattle.cubic.specs.Test.{line, short-accepts}
+use Rattle.words.specs.Words.{front, wordsAfter}
+use Rattle.words.specs.declared.split.Word.the-variants.{At}
+use Rattle.decimals.specs.Decimal.{areDigits, natural}
+use Rattle.decimals.specs.Text.{spelled}
+use Rattle.decimals.specs.declared.reading.Number as Number
+use Rattle.decimals.specs.declared.reading.Number32 as Number32
+use Rattle.demands.specs.Contracts.{SaysMonotone, HasCoefficients, Steps, Renews, Spots}
+use Rattle.demands.specs.Programs.{two, four}
+use Rattle.demands.specs.Refuting.{within}
+use Rattle.demands.specs.SixteenGiven.{count}
+use Rattle.integers.proofs.difference.Reads as integers·difference
+use Rattle.integers.proofs.between.Reads as integers·between
+use Rattle.integers.proofs.floor_div.Reads as integers·floor_div
+use Rattle.rules.proofs.count_within.Reads as rules·count_within
+use Rattle.rules.proofs.width_within.Reads as rules·width_within
+use Rattle.rules.proofs.rise_within.Reads as rules·rise_within
+use Rattle.words.proofs.find.Reads as words·find
+use Rattle.words.proofs.content.Reads as words·content
+use Rattle.words.proofs.next_word.Reads as words·next_word
+use Rattle.words.proofs.count.Reads as words·count
+use Rattle.words.proofs.part.Reads as words·part
+use Rattle.words.proofs.append.Reads as words·append
+use Rattle.decimals.proofs.whole.Reads as decimals·whole
+use Rattle.decimals.proofs.whole32.Reads as decimals·whole32
+use Rattle.decimals.proofs.append_natural.Reads as decimals·append_natural
+use Rattle.decimals.proofs.append_whole.Reads as decimals·append_whole
+use Rattle.decimals.proofs.append_whole32.Reads as decimals·append_whole32
+
+abbrev bytes : List ℕ → RefT (List ℕ)
+bytes bs = record { ptr = (0, 0); name = 0; now = bs }
+
+-- `ab c`, `-7`, and a buffer of four bytes of which the first is held
+abbrev words : List ℕ
+words = 97 ∷ 98 ∷ 32 ∷ 99 ∷ []
+
+abbrev minus-seven : List ℕ
+minus-seven = 45 ∷ 55 ∷ []
+
+abbrev buffer : List ℕ
+buffer = 61 ∷ 0 ∷ 0 ∷ 0 ∷ []
+
+pub record WorkedBelow : Type 0 where
+  -- 2147483647 to −2147483648; 1 ≤ 1 ≤ 1024; −10 divided by 3
+  pub difference : integers·difference.Post tt (pos 2147483647, (negsuc 2147483647, tt)) (negsuc 4294967294) (pos 2147483647, (negsuc 2147483647, tt))
+  pub between : integers·between.Post tt (pos 1, (pos 1, (pos 1024, tt))) true (pos 1, (pos 1, (pos 1024, tt)))
+  pub floor-div : integers·floor_div.Post tt (negsuc 9, (pos 3, tt)) (negsuc 3) (negsuc 9, (pos 3, tt))
+  -- the largest of each
+  pub count-within : rules·count_within.Post tt (1024, tt) true (1024, tt)
+  pub width-within : rules·width_within.Post tt (pos 1024, tt) true (pos 1024, tt)
+  pub rise-within : rules·rise_within.Post tt (pos 1048576, tt) true (pos 1048576, tt)
+  -- the space of `ab c` is at 2; its second word is from 3 to 4; it has two; `ab` is its part from 0 to 2; `ab` without its CR; `b` put behind `=`
+  pub find : words·find.Post ([], tt) (bytes words, (0, (32, tt))) 2 (bytes words, (0, (32, tt)))
+  pub next-word : words·next_word.Post ([], tt) (bytes words, (2, tt)) (At 3 4) (bytes words, (2, tt))
+  pub count-of-words : words·count.Post ([], tt) (bytes words, (0, tt)) 2 (bytes words, (0, tt))
+  pub part : words·part.Post ([], tt) (bytes words, (0, (2, tt))) (bytes (97 ∷ 98 ∷ [])) (bytes words, (0, (2, tt)))
+  pub content : words·content.Post ([], tt) (bytes (97 ∷ 98 ∷ 13 ∷ []), tt) (bytes (97 ∷ 98 ∷ [])) (bytes (97 ∷ 98 ∷ 13 ∷ []), tt)
+  pub append : words·append.Post ([], ([], tt)) (bytes buffer, (1, (bytes (98 ∷ []), tt))) 2 (bytes (61 ∷ 98 ∷ 0 ∷ 0 ∷ []), (1, (bytes (98 ∷ []), tt)))
+  -- `-7` is −7, and is written so
+  pub whole : decimals·whole.Post ([], tt) (bytes minus-seven, tt) (Number.the-variants.Is (negsuc 6)) (bytes minus-seven, tt)
+  pub whole32 : decimals·whole32.Post ([], tt) (bytes minus-seven, tt) (Number32.the-variants.Is (negsuc 6)) (bytes minus-seven, tt)
+  pub append-natural : decimals·append_natural.Post ([], tt) (bytes buffer, (1, (7, tt))) 2 (bytes (61 ∷ 55 ∷ 0 ∷ 0 ∷ []), (1, (7, tt)))
+  pub append-whole : decimals·append_whole.Post ([], tt) (bytes buffer, (1, (negsuc 6, tt))) 3 (bytes (61 ∷ 45 ∷ 55 ∷ 0 ∷ []), (1, (negsuc 6, tt)))
+  pub append-whole32 : decimals·append_whole32.Post ([], tt) (bytes buffer, (1, (negsuc 6, tt))) 3 (bytes (61 ∷ 45 ∷ 55 ∷ 0 ∷ []), (1, (negsuc 6, tt)))
+  -- 1, 1, 256, 256 is monotone and a line; the steps, renewed slopes and a position of (0,0), (1,1), (2,4), (3,7) and of (0,0), (3,−10)
+  pub is-monotone : SaysMonotone (pos 1) (pos 1) (pos 256) (pos 256) true
+  pub coefficients : HasCoefficients (pos 1) (pos 1) (pos 256) (pos 256) (pos 256) (pos 0) (pos 0)
+  pub step : Steps (four .values) 1 (pos 3)
+  pub renew : Renews four 0 2 (four .slopes)
+  pub spot-on : Spots two (pos 1) 0 (record { left = pos 0; h = pos 3; z = negsuc 9; m = negsuc 852; n = negsuc 852; t = pos 1 })
+
+pub worked-below : WorkedBelow
+unfolding front wordsAfter areDigits natural spelled
+worked-below =
+    record {
+      difference = refl;
+      between = holds (within tt tt);
+      floor-div = record { is = refl };
+      count-within = holds (count tt tt);
+      width-within = holds (within tt tt);
+      rise-within = holds (within tt tt);
+      find = refl;
+      next-word = refl;
+      count-of-words = refl;
+      part = refl;
+      content = refl;
+      append = record { counted = refl; buffer = refl };
+      whole = refl;
+      whole32 = refl;
+      append-natural = record { counted = refl; buffer = refl };
+      append-whole = record { counted = refl; buffer = refl };
+      append-whole32 = record { counted = refl; buffer = refl };
+      is-monotone = holds (monotone-rising (ltZ-yes tt) (short-accepts (line (leZ-yes tt) (leZ-yes tt) (leZ-yes tt))));
+      coefficients = record { first-is = refl; second-is = refl; third-is = refl };
+      step = refl;
+      renew = refl;
+      spot-on = record { left-is = refl; h-is = refl; z-is = refl; m-is = refl; n-is = refl; t-is = refl; right-fits = record { sfits = lit< tt } };
+    }
