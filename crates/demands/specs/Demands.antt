@@ -1,22 +1,25 @@
--- The user's three demands, word for word, as predicates of any implementation. This file has no proof: it can be read from top to bottom. `Met.antt` shows
--- that ours meets the three, as Rattle functions and as the library for C; `Wrong1.antt`, `Wrong2.antt` and `Wrong3.antt` show of wrong programs that they do not.
+-- The user's three demands, word for word, as predicates of any implementation, and what document 01 says of answers beside them. This file has no proof: it can be read from top
+-- to bottom. `Met.antt` shows that ours meets them, as Rattle functions and as the library for C; `NothingElse.antt` that whatever meets them answers as ours does; and
+-- `Wrong1.antt`, `Wrong2.antt`, `Wrong3.antt` and `Wrong01.antt` of wrong programs that they do not.
 --
 -- How to read it:
---   A → B, A ↔ B, A × B, A ⊎ B    if A then B; A exactly if B; A and B; A or B
+--   f x y                         f of x and y; a relation may be written before its last ones: `CauseOf (check t) = Holds t` says that the cause is that of `Holds t`, at any number and place
+--   A → B → C                     if A and B then C; → is read last: A → B × C ↔ D is A → ((B × C) ↔ D)
+--   A ↔ B, A × B, A ⊎ B           A exactly if B; A and B; A or B
 --   A → ⊥, x ≡ y                  not A; x equals y
 --   (i : ℕ) → A, (i : ℕ) × A      A for every i; there is an i of which A holds. {i : ℕ} in place of (i : ℕ) says the same
 --   ℕ, ℤ, pos n, negsuc n         whole numbers from 0 on, and with the negative ones: n, and −(n + 1), as numbers of ℤ
---   +ℤ, -ℤ, *ℤ, ≤ℤ, <ℤ            their arithmetic and order; products go before sums
+--   +ℤ, -ℤ, *ℤ, ≤ℤ, <ℤ            the arithmetic and order of ℤ, and +, ≤, < those of ℕ; products go before sums
 --   x ∷ y ∷ [], xs ++ ys          the list of x and y; one list behind another
---   length, entry, step           how long a list is; its entry i, from 0; entry i + 1 less entry i: of the knots the width of piece i, of the values its rise
---   r .field                      what the record r holds under that name
---   record R : Type 0 where ..    R holds if all of the lines below it do
---   data D : .. where ..          D holds if one of the lines below it does, each with its name before the colon
---   abbrev f : .., f x = y        f is short for what stands behind the sign
---   Unit, tt                      nothing, where nothing is to be said
+--   length, entry, step           how long a list is; its entry i, from 0, and 0 where it has none; entry i + 1 less entry i: of the knots the width of piece i, of the values its rise
+--   record R : Type 0 where ..    either a thing with parts, such as a table, where r .part is that part of r; or a statement, which holds if all of the lines below it do. A line
+--                                 that is a number or a list says that there is one
+--   data D : .. where ..          either a choice of things, such as a call; or a statement, which holds if one of the lines below it does, each with its name before the colon
+--   abbrev f : .., f x = y        f is short for what stands behind the sign; module _ (x : A) where: what follows speaks of any x
+--   Unit, tt                      where nothing is to be said. Type 0, Type 1, pub and use say nothing to a reader
 --   Table, table ks vs ss         the three lists of a table: knots, values, slopes
---   Change, changedBy c t         a change: the number of a point, its new knot and value; the table t with its points as they would be after the change c
---   Finding, Telling              a verdict: rising, falling, flat, bends, or none where it is refused; what the drive is told: a dwell or a move
+--   Change, changedBy c t         a change: the number of a point, c .point, its new knot and value, c .knot and c .value; the table t with its points as they would be after it
+--   Finding, Telling              a verdict: rising, falling, flat, bends, or none where the piece is refused; what the drive is told: a dwell or a move, and resting is a dwell at +0
 --   Holds, HoldsAt, HoldsFor,     the cause with a number holds at a place: of a table, at a position, for a float answer, and of the points as they would be after
 --     HoldsAfter                  a change (`Table.antt` and `WouldBe.antt` of `table`, `Position.antt` of `position`, `Drive.antt` of `drive`)
 --   WidthWithin, RiseWithin       the limits of document 01 (`Limits.antt` of `rules`)
@@ -26,6 +29,7 @@
 --   slopeAt, riseAt, unit         the slope of a piece's cubic and the cubic, at a fraction of the width, and 256 (`Piece.antt` of `cubic`)
 --   Floor n d q                   q is n/d rounded down: q·d ≤ n < (q + 1)·d
 --   magnitude x, withSign z x     x without its sign; x with the sign of z
+--   ToldAt t x a                  a is what the drive is to be told at x: on a flat piece a dwell at its value, on any other a move of three exact floats (`Drive.antt`)
 -- `Met.antt` also has the words in which our own functions promise what they do. They are not used here: `Given` says which number and place an order of causes gives, `Judged`, `Built`,
 -- `Located`, `Evaluated`, `Driving` and `Changed` what comes out of a verdict, a build, .. and a change, and `Chain` that a list of such changes is made one after another.
 use mathlib.Core.Path.{_≡_}
@@ -43,15 +47,16 @@ use Rattle.rules.specs.Limits.{WidthWithin, RiseWithin}
 use Rattle.table.specs.declared.changed.Change.{Change}
 use Rattle.table.specs.Table.{Table, table, entry, step, Holds}
 use Rattle.table.specs.WouldBe.{changedBy, HoldsAfter}
-use Rattle.piece.specs.Promise.{Finding, rising, falling, flat}
+use Rattle.piece.specs.Promise.{Finding, rising, falling, flat, bends}
 use Rattle.position.specs.Position.{Belongs, HoldsAt}
-use Rattle.drive.specs.Drive.{Telling, HoldsFor}
+use Rattle.drive.specs.Drive.{Telling, resting, ToldAt, HoldsFor}
 use Rattle.change.specs.Beside.{Near}
 
 -- ======== What an implementation is
 
 -- A call, and what comes in: a piece, as its width, rise and two slopes; or the three lists as they are at the call, and a position or a change. A change also comes
--- with the changes that were made before it since the table was built, the first one first: an implementation may remember them.
+-- with the changes that were made before it since the table was built, the first one first: an implementation might remember them, and be right at the first alone. Nothing is
+-- said of what other calls may remember: what they answer has to be right whatever went before.
 pub data Call : Type 0 where
   judge : (h z m n : ℤ) → Call
   points build check : Table → Call
@@ -190,8 +195,8 @@ pub record Demand1 (I : Implementation) : Type 0 where
   -- "Nothing traps, nothing is computed from a wrapped number,"
   --
   -- That a call ends, that no step of it traps and that no sum, difference, product, negation or cast leaves its type is nothing that an answer could show: the prover shows
-  -- it of every function before it is compiled. What an answer can show is the sum that the label on the cabinet speaks of: counts at opposite ends of 32 bits are refused, by
-  -- whatever call looks at them or would put them there.
+  -- it of every function before it is compiled. What an answer can show is the case that the label on the cabinet is there for: a table of two points whose counts lie at opposite ends of
+  -- 32 bits is refused by 3, by whatever call looks at it or would leave it. (That every width outside its limits is refused, whatever it would wrap to, is part of the next sentence.)
   pub counts-at-opposite-ends-are-refused : {v w m n : ℤ} {call : Call} {o : Outcome call} → LooksAt (opposite-ends v w m n) call → I .May call o → (o .number ≡ 3) × (o .place ≡ 0)
   -- "and nobody is asked to have tested first."
   pub nobody-is-asked : (call : Call) → I .Asks call
@@ -203,11 +208,10 @@ pub record Demand1 (I : Implementation) : Type 0 where
 
 -- ======== The second demand
 
--- a yes: the piece is called by its rise, and not `bends`
-pub data Yes (z : ℤ) : Finding → Type 0 where
-  it-rises : pos 0 <ℤ z → Yes z rising
-  it-falls : z <ℤ pos 0 → Yes z falling
-  it-is-flat : z ≡ pos 0 → Yes z flat
+pub data CalledByItsRise (z : ℤ) : Finding → Type 0 where
+  it-rises : pos 0 <ℤ z → CalledByItsRise z rising
+  it-falls : z <ℤ pos 0 → CalledByItsRise z falling
+  it-is-flat : z ≡ pos 0 → CalledByItsRise z flat
 
 module _ (h z m n : ℤ) where
   -- the slope of the piece's cubic at the fraction k/q of its width, times 256·h·q², and what the cubic has risen by up to there, times 256·q³
@@ -223,7 +227,7 @@ module _ (h z m n : ℤ) where
     pub while-falling : z <ℤ pos 0 → (k q : ℕ) → 1 ≤ q → k ≤ q → slope k q ≤ℤ pos 0
     pub while-level : z ≡ pos 0 → (k q : ℕ) → 1 ≤ q → k ≤ q → rise k q ≡ pos 0
 
-  -- w is what the cubic has risen by, t counts into the piece, rounded down: w·d ≤ n < (w + 1)·d, where n/d is the cubic
+  -- w is what the cubic has risen by, t counts into the piece, rounded down
   abbrev pub RoundedDown : (t w : ℤ) → Type 0
   RoundedDown t w = Floor (riseAt (unit *ℤ z) (m *ℤ h) (n *ℤ h) t h) (unit *ℤ (h *ℤ h *ℤ h)) w
 
@@ -262,7 +266,10 @@ pub record ExactRoundedDown (t : Table) (x v : ℤ) : Type 0 where
 pub record Demand2 (I : Implementation) : Type 0 where
   -- "A piece within the limits gets a yes exactly when its cubic has no slope against its rise at any fraction of its width, or, without a rise, is level throughout,
   -- whoever proposed the slopes."
-  pub a-piece-gets-a-yes-exactly-then : {h z m n : ℤ} {o : Outcome (judge h z m n)} → WidthWithin h → RiseWithin z → I .May (judge h z m n) o → Yes z (o .answer) ↔ NoSlopeAgainstItsRise h z m n
+  --
+  -- A yes is any verdict but `bends`; and with a yes the piece is called by its rise.
+  pub a-piece-gets-a-yes-exactly-then : {h z m n : ℤ} {o : Outcome (judge h z m n)} → WidthWithin h → RiseWithin z → I .May (judge h z m n) o → (o .answer ≡ bends → ⊥) ↔ NoSlopeAgainstItsRise h z m n
+  pub and-is-called-by-its-rise : {h z m n : ℤ} {o : Outcome (judge h z m n)} → WidthWithin h → RiseWithin z → I .May (judge h z m n) o → NoSlopeAgainstItsRise h z m n → CalledByItsRise z (o .answer)
   pub so-does-a-table : {t : Table} {o : Outcome (check t)} → NoneHolds (Holds t) (1 ∷ 2 ∷ 3 ∷ 4 ∷ []) → I .May (check t) o → (o .number ≡ 0) ↔ NoneAgainst t
   -- "Slopes you build are Fritsch and Butland's mean at inner points and document 01's rule at the two ends, in its units,"
   pub slopes-you-build : {t : Table} {o : Outcome (build t)} → I .May (build t) o → o .number ≡ 0 → RightSlopes (t .knots) (t .values) (o .lists)
@@ -274,7 +281,8 @@ pub record Demand2 (I : Implementation) : Type 0 where
 
 -- ======== The third demand
 
--- A list of changes, made one after another: each of the table that the one before it left, with whatever it answers. `made` are those that were made before.
+-- A list of changes, made one after another. `none`: no change leaves the table as it is. `next`: the first change is made of the table, with whatever it answers, and the others of the
+-- table that it left. `made` are those that were made before.
 pub data ChainOf (I : Implementation) : (made : List Change) → List Change → (before after : Table) → Type 0 where
   none : {made : List Change} {t : Table} → ChainOf I made [] t t
   next : {made : List Change} {c : Change} {more : List Change} {t after : Table} {o : Outcome (point made c t)} → I .May (point made c t) o → ChainOf I (made ++ c ∷ []) more (o .lists) after
@@ -308,3 +316,27 @@ pub record Demand3 (I : Implementation) : Type 0 where
   -- "It is refused exactly when a fresh build of the changed points would be, or the point isn't there."
   pub refused-exactly-as-a-build : {made : List Change} {c : Change} {t : Table} {o : Outcome (point made c t)} {p : Outcome (build (changedBy c t))} → I .May (point made c t) o
       → I .May (build (changedBy c t)) p → (o .number ≡ 0 → ⊥) ↔ ((p .number ≡ 0 → ⊥) ⊎ (length (t .knots) ≤ c .point))
+
+-- ======== What document 01 says of answers beside
+
+-- what a refused call answers
+abbrev pub nothing : (call : Call) → Reply call
+nothing (judge h z m n) = Finding.none
+nothing (points t) = tt
+nothing (build t) = tt
+nothing (check t) = tt
+nothing (locate t x) = 0
+nothing (evaluate t x) = pos 0
+nothing (float-answer t x) = resting
+nothing (changed-points c t) = tt
+nothing (point made c t) = tt
+
+pub record Document01 (I : Implementation) : Type 0 where
+  -- "A one-piece refusal answers place 0 and none of the four verdicts. A refused call writes to no list, and its value, if it has one, is 0. A refused float answer is a dwell
+  -- at level 0."
+  pub a-refused-call-answers-nothing : {call : Call} {o : Outcome call} → I .May call o → (o .number ≡ 0 → ⊥) → o .answer ≡ nothing call
+  -- "A position at an inner knot belongs to the piece that starts there; the last knot belongs to the last piece."
+  pub the-piece-of-a-position : {t : Table} {x : ℤ} {o : Outcome (locate t x)} → I .May (locate t x) o → o .number ≡ 0 → Belongs (t .knots) x (o .answer)
+  -- "A flat piece answers a dwell that carries its level as a 64-bit float. Any other answers a move: one record of three 64-bit floats, the left value, the numerator above and
+  -- 256·h³."
+  pub what-the-drive-is-told : {t : Table} {x : ℤ} {o : Outcome (float-answer t x)} → I .May (float-answer t x) o → o .number ≡ 0 → ToldAt t x (o .answer)

@@ -6,6 +6,7 @@ pub mod Instances
 pub mod InstancesBelow
 pub mod Kept
 pub mod Met
+pub mod NothingElse
 pub mod Ours
 pub mod Programs
 pub mod Refuting
@@ -14,6 +15,7 @@ pub mod Shown
 pub mod Sixteen
 pub mod SixteenGiven
 pub mod Ties
+pub mod Wrong01
 pub mod Wrong1
 pub mod Wrong16
 pub mod Wrong2

@@ -1,15 +1,17 @@
 -- Ours meets the three demands: the Rattle functions, and those that C links. Both keep what the definitions of their promises say (`Kept.antt`), and whatever keeps that
 -- meets the demands.
+use mathlib.Core.Bool.{Bool, true, false}
 use mathlib.Core.Path.{_≡_, refl, sym, _∙_, ap, subst, subst₂}
 use mathlib.Core.Logic.{_↔_, _⊎_, inl, inr, ⊎-elim}
 use mathlib.Core.List.{List, [], _∷_, _++_}
 use Prim.Native.Nat.{ℕ, _≤_}
 use native.Mathlib.Omega.{arith}
+use lib.Dec.{T}
 use lib.IntN.{ℤ}
 use lib.ListN.{length, length-set}
 use Rattle.cubic.specs.Monotone.{monotone-stable}
 use Rattle.rules.specs.Limits.{WidthWithin, RiseWithin}
-use Rattle.rules.specs.Refusals.{Given, done, refused, passed}
+use Rattle.rules.specs.Refusals.{Given, done, refused, passed, Answered, answered}
 use Rattle.rules.specs.Order.{one-given, went-on, passes-at-0, kept, answer-right}
 use Rattle.integers.specs.Signs.{by-sign}
 use Rattle.table.specs.declared.changed.Change.{Change}
@@ -19,7 +21,7 @@ use Rattle.table.specs.Found.{every-table-has-an-answer-to-a-build, every-table
 use Rattle.table.specs.WouldBe.{changedBy}
 use Rattle.table.specs.AfterChange.{as-changed, accepted-then}
 use Rattle.piece.specs.Found.{every-piece-has-a-verdict}
-use Rattle.piece.specs.Promise.{Finding, bends, Ruling, ruling, rulingOf, Judged, width-refused, rise-refused, monotone, bent}
+use Rattle.piece.specs.Promise.{Finding, rising, falling, flat, bends, Ruling, ruling, rulingOf, Judged, width-refused, rise-refused, monotone, bent}
 use Rattle.piece.specs.Leaning.{is-rising, is-falling, is-flat}
 use Rattle.piece.specs.Determined.{one-ruling}
 use Rattle.slopes.specs.Slopes.{builtSlope, Built}
@@ -37,10 +39,11 @@ use Rattle.change.specs.Change.{Changed}
 use Rattle.change.specs.Chain as Chain
 use Rattle.change.specs.WhatIsWritten.{the-point-holds-the-new-knot, the-point-holds-the-new-value, the-slopes-at-it-and-beside-it-are-renewed, no-other-knot-changes, no-other-value-changes, no-other-slope-changes}
 use Rattle.change.specs.RefusedAsABuild.{made-only-then, made-then}
-use Rattle.demands.specs.Demands.{Call, judge, points, build, check, locate, evaluate, float-answer, changed-points, point, Outcome, Implementation, orderOf, HoldsAlone, width-outside, rise-outside, CauseOf, NoneHolds, opposite-ends, LooksAt, its-points, a-build, a-check, a-piece, a-value, a-float-answer, its-changed-points, a-change, lent, MayComeIn, Demand1, Yes, it-rises, it-falls, it-is-flat, NoSlopeAgainstItsRise, NoneAgainst, RightSlope, RightSlopes, ExactRoundedDown, Demand2, ChainOf, none, next, JustThis, Demand3}
+use Rattle.demands.specs.Demands.{Call, judge, points, build, check, locate, evaluate, float-answer, changed-points, point, Outcome, Implementation, orderOf, HoldsAlone, width-outside, rise-outside, CauseOf, NoneHolds, opposite-ends, LooksAt, its-points, a-build, a-check, a-piece, a-value, a-float-answer, its-changed-points, a-change, lent, MayComeIn, Demand1, CalledByItsRise, it-rises, it-falls, it-is-flat, NoSlopeAgainstItsRise, NoneAgainst, RightSlope, RightSlopes, ExactRoundedDown, Demand2, ChainOf, none, next, JustThis, Demand3, nothing, Document01}
 use Rattle.demands.specs.Ours.{ours, ours-in-C}
 use Rattle.demands.specs.Kept.{Promised, Keeps, ours-keeps, ours-in-C-keeps}
 use Rattle.demands.specs.ByOrder.{refused-exactly, none-given}
+use Rattle.demands.specs.Refuting.{apart}
 use Rattle.demands.specs.Cubic.{no-slope-against, monotone-without}
 use Rattle.demands.specs.Shown.{by-a-build, by-a-check, by-an-evaluation, by-a-float-answer, right-slope, value-floor, less-or-not}
 
@@ -66,7 +69,7 @@ width-taken w p (width-outside f) = f w
 pub rise-taken : {h z : ℤ} → RiseWithin z → (p : ℕ) → HoldsAlone h z 4 p → ⊥
 rise-taken r p (rise-outside f) = f r
 
-alone : {h z m n : ℤ} {k p : ℕ} {finding : Finding} → Judged h z m n (ruling k p finding) → Given (HoldsAlone h z) (3 ∷ 4 ∷ []) k p
+pub alone : {h z m n : ℤ} {k p : ℕ} {finding : Finding} → Judged h z m n (ruling k p finding) → Given (HoldsAlone h z) (3 ∷ 4 ∷ []) k p
 alone (width-refused f) = refused (width-outside f) (λ _ l _. absurd (omega (arith, l)))
 alone (rise-refused w f) = passed (width-taken w) (refused (rise-outside f) (λ _ l _. absurd (omega (arith, l))))
 alone (monotone w r o) = passed (width-taken w) (passed (rise-taken r) done)
@@ -124,16 +127,32 @@ untouched (point made c t) o p f =
 
 -- ---- 2
 
-a-piece-by-its-promise : {h z m n : ℤ} {number place : ℕ} {finding : Finding} → WidthWithin h → RiseWithin z → Judged h z m n (ruling number place finding) → Yes z finding ↔ NoSlopeAgainstItsRise h z m n
-a-piece-by-its-promise {h} {z} {m} {n} {finding = finding} w l j = (
-  λ y. no-slope-against (monotone-stable (λ f. not-bends y (ap findingOf (one-ruling j (bent w l f))))),
-  λ s. let o = monotone-without s in
-      by-sign z (λ p. subst (Yes z) (ap findingOf (one-ruling (is-rising w l p o) j)) (it-rises p)) (λ p. subst (Yes z) (ap findingOf (one-ruling (is-falling w l p o) j)) (it-falls p))
-      (λ e. subst (Yes z) (ap findingOf (one-ruling (is-flat w l e o) j)) (it-is-flat e)),
-)
-  where
-    not-bends : Yes z finding → finding ≡ bends → ⊥
-    not-bends y e = elim (subst (Yes z) e y) [ ]
+-- any finding but `bends`
+abbrev pub straight : Finding → Bool
+straight rising = true
+straight falling = true
+straight flat = true
+straight bends = false
+straight Finding.none = true
+
+pub not-bends : {finding : Finding} → T (straight finding) → finding ≡ bends → ⊥
+not-bends t e = apart straight e t tt
+
+module _ {h z m n : ℤ} {number place : ℕ} {finding : Finding} (w : WidthWithin h) (l : RiseWithin z) (j : Judged h z m n (ruling number place finding)) where
+  called-by-its-rise : NoSlopeAgainstItsRise h z m n → CalledByItsRise z finding
+  called-by-its-rise s =
+      let o = monotone-without s in
+      by-sign z (λ p. subst (CalledByItsRise z) (ap findingOf (one-ruling (is-rising w l p o) j)) (it-rises p)) (λ p. subst (CalledByItsRise z) (ap findingOf (one-ruling (is-falling w l p o) j)) (it-falls p))
+      (λ e. subst (CalledByItsRise z) (ap findingOf (one-ruling (is-flat w l e o) j)) (it-is-flat e))
+
+  a-yes-exactly-then : (finding ≡ bends → ⊥) ↔ NoSlopeAgainstItsRise h z m n
+  a-yes-exactly-then = (
+    λ y. no-slope-against (monotone-stable (λ f. y (ap findingOf (one-ruling j (bent w l f))))),
+    λ s e. no-bend (subst (CalledByItsRise z) e (called-by-its-rise s)),
+  )
+    where
+      no-bend : CalledByItsRise z bends → ⊥
+      no-bend c = elim c [ ]
 
 a-table-by-its-promise : {t : Table} {number place : ℕ} → NoneHolds (Holds t) buildOrder → Given (Holds t) checkOrder number place → (number ≡ 0) ↔ NoneAgainst t
 a-table-by-its-promise {t} limits g = (
@@ -193,6 +212,29 @@ chained : {I : Implementation} → Keeps I → {made changes : List Change} {t u
 chained k none = Chain.none
 chained k (next {made} {c} {t = t} p more) = Chain.next (k .promised (point made c t) _ p) (chained k more)
 
+-- ---- document 01
+
+no-verdict : {h z m n : ℤ} {number place : ℕ} {finding : Finding} → Judged h z m n (ruling number place finding) → (number ≡ 0 → ⊥) → finding ≡ Finding.none
+no-verdict (width-refused f) e = refl
+no-verdict (rise-refused w f) e = refl
+no-verdict (monotone w r o) e = absurd (e refl)
+no-verdict (bent w r f) e = absurd (e refl)
+
+no-answer : {A : Type 0} {Right : A → Type 0} {otherwise a : A} {number : ℕ} → Answered Right otherwise number a → (number ≡ 0 → ⊥) → a ≡ otherwise
+no-answer Answered.nothing e = refl
+no-answer (answered r) e = absurd (e refl)
+
+answers-nothing-where-refused : (call : Call) (o : Outcome call) → Promised call o → (o .number ≡ 0 → ⊥) → o .answer ≡ nothing call
+answers-nothing-where-refused (judge h z m n) o p f = no-verdict p f
+answers-nothing-where-refused (points t) o p f = refl
+answers-nothing-where-refused (build t) o p f = refl
+answers-nothing-where-refused (check t) o p f = refl
+answers-nothing-where-refused (locate t x) o p f = no-answer (p .piece) f
+answers-nothing-where-refused (evaluate t x) o p f = no-answer (p .value) f
+answers-nothing-where-refused (float-answer t x) o p f = no-answer (p .answer) f
+answers-nothing-where-refused (changed-points c t) o p f = refl
+answers-nothing-where-refused (point made c t) o p f = refl
+
 -- ---- so whatever keeps the promises meets the demands
 
 module _ {I : Implementation} (k : Keeps I) where
@@ -208,7 +250,8 @@ module _ {I : Implementation} (k : Keeps I) where
 
   pub demand-2 : Demand2 I
   demand-2 = record {
-    a-piece-gets-a-yes-exactly-then = λ {h} {z} {m} {n} w l p. a-piece-by-its-promise w l (k .promised (judge h z m n) _ p);
+    a-piece-gets-a-yes-exactly-then = λ {h} {z} {m} {n} w l p. a-yes-exactly-then w l (k .promised (judge h z m n) _ p);
+    and-is-called-by-its-rise = λ {h} {z} {m} {n} w l p. called-by-its-rise w l (k .promised (judge h z m n) _ p);
     so-does-a-table = λ {t} limits p. a-table-by-its-promise limits (k .promised (check t) _ p);
     slopes-you-build = λ {t} p e. its-slopes-are-right e (k .promised (build t) _ p);
     get-a-yes-always = λ {t} {o} p e q. one-given (k .promised (check (table (t .knots) (t .values) (o .lists))) _ q) (a-built-table-passes-the-table-check (done-so e (k .promised (build t) _ p))) .0;
@@ -224,13 +267,20 @@ module _ {I : Implementation} (k : Keeps I) where
     refused-exactly-as-a-build = λ {made} {c} {t} p b. refused-as-a-build (k .promised (point made c t) _ p) (k .promised (build (changedBy c t)) _ b);
   }
 
+  pub document-01 : Document01 I
+  document-01 = record {
+    a-refused-call-answers-nothing = λ {call} p. answers-nothing-where-refused call _ (k .promised call _ p);
+    the-piece-of-a-position = λ {t} {x} p e. answer-right e (k .promised (locate t x) _ p .piece);
+    what-the-drive-is-told = λ {t} {x} p e. answer-right e (k .promised (float-answer t x) _ p .answer);
+  }
+
 -- ======== Ours does
 
-pub met : Demand1 ours × Demand2 ours × Demand3 ours
-met = (demand-1 ours-keeps, demand-2 ours-keeps, demand-3 ours-keeps)
+pub met : Demand1 ours × Demand2 ours × Demand3 ours × Document01 ours
+met = (demand-1 ours-keeps, demand-2 ours-keeps, demand-3 ours-keeps, document-01 ours-keeps)
 
-pub met-in-C : Demand1 ours-in-C × Demand2 ours-in-C × Demand3 ours-in-C
-met-in-C = (demand-1 ours-in-C-keeps, demand-2 ours-in-C-keeps, demand-3 ours-in-C-keeps)
+pub met-in-C : Demand1 ours-in-C × Demand2 ours-in-C × Demand3 ours-in-C × Document01 ours-in-C
+met-in-C = (demand-1 ours-in-C-keeps, demand-2 ours-in-C-keeps, demand-3 ours-in-C-keeps, document-01 ours-in-C-keeps)
 
 -- ======== "any number of times": every list of changes has a chain, of any implementation that meets the first demand
 

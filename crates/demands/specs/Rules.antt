@@ -1,12 +1,14 @@
 -- The slopes that are built keep the two rules, which say what a slope is and not how it is worked out.
+use mathlib.Core.Logic.{⊎-elim}
 use mathlib.Core.Path.{_≡_, refl, sym, _∙_, ap, subst}
 use Prim.Native.Nat.{zero, suc}
 use lib.IntN.{ℤ, pos, negsuc, _*ℤ_, *ℤ-comm}
-use lib.Signed.{_≤ℤ_, _<ℤ_, ltZ-yes}
+use lib.Signed.{_≤ℤ_, _<ℤ_, ltZ-yes, ≤ℤ-refl}
 use Rattle.integers.specs.Promise.{Floor, floorOf, magnitude, withSign}
 use Rattle.integers.specs.Order.{signs, positives, <ℤ→≤ℤ}
-use Rattle.integers.specs.Signs.{0<-magnitude}
-use Rattle.integers.specs.Division.{floor-of, 0≤-floor, toward-scaled}
+use Rattle.integers.specs.Signs.{0<-magnitude, by-sign}
+use Rattle.integers.specs.Division.{floor-of, floor-unique, 0≤-floor, toward-scaled}
+use Rattle.integers.specs.Decided.{<ℤ-or-not}
 use Rattle.cubic.specs.Piece.{unit}
 use Rattle.cubic.specs.Slopes.{endSlope, meanAbove, meanBelow, innerSlope}
 use Rattle.cubic.specs.Inner.{inner-level, inner-steep}
@@ -35,6 +37,16 @@ end-rule {h} z h₀ =
     let n₀ : pos 0 ≤ℤ (unit *ℤ magnitude z) = search signs in
     record { size = its-size z (unit *ℤ magnitude z) h n₀ h₀ e; sign = its-sign z (unit *ℤ magnitude z) h n₀ h₀ e }
 
+-- what stands below the mean's line is above 0
+both-sizes : (z₁ z₂ : ℤ) → pos 0 <ℤ (z₁ *ℤ z₂) → (pos 0 <ℤ magnitude z₁) × (pos 0 <ℤ magnitude z₂)
+both-sizes z₁ z₂ t = (0<-magnitude z₁ z₂ t, 0<-magnitude z₂ z₁ (subst (λ (x : ℤ). pos 0 <ℤ x) (*ℤ-comm z₁ z₂) t))
+
+0<-below : {h₁ h₂ : ℤ} (z₁ z₂ : ℤ) → pos 0 <ℤ h₁ → pos 0 <ℤ h₂ → pos 0 <ℤ (z₁ *ℤ z₂) → pos 0 <ℤ meanBelow h₁ (magnitude z₁) h₂ (magnitude z₂)
+0<-below z₁ z₂ p q t =
+    let a = both-sizes z₁ z₂ t .0 in
+    let b = both-sizes z₁ z₂ t .1 in
+    search positives depth 9 fits 9000
+
 pub mean-rule : {h₁ h₂ : ℤ} (z₁ z₂ : ℤ) → pos 0 <ℤ h₁ → pos 0 <ℤ h₂ → MeanRule h₁ z₁ h₂ z₂ (innerSlope unit h₁ z₁ h₂ z₂)
 mean-rule {h₁} {h₂} z₁ z₂ p q =
     record {
@@ -49,18 +61,23 @@ mean-rule {h₁} {h₂} z₁ z₂ p q =
     below : ℤ
     below = meanBelow h₁ (magnitude z₁) h₂ (magnitude z₂)
 
-    sizes : pos 0 <ℤ (z₁ *ℤ z₂) → (pos 0 <ℤ magnitude z₁) × (pos 0 <ℤ magnitude z₂)
-    sizes t = (0<-magnitude z₁ z₂ t, 0<-magnitude z₂ z₁ (subst (λ (x : ℤ). pos 0 <ℤ x) (*ℤ-comm z₁ z₂) t))
-
     above₀ : pos 0 <ℤ (z₁ *ℤ z₂) → pos 0 <ℤ above
     above₀ t =
         let u : pos 0 <ℤ unit = ltZ-yes tt in
-        let a = sizes t .0 in
-        let b = sizes t .1 in
+        let a = both-sizes z₁ z₂ t .0 in
+        let b = both-sizes z₁ z₂ t .1 in
         search positives
 
     below₀ : pos 0 <ℤ (z₁ *ℤ z₂) → pos 0 <ℤ below
-    below₀ t =
-        let a = sizes t .0 in
-        let b = sizes t .1 in
-        search positives depth 9 fits 9000
+    below₀ = 0<-below z₁ z₂ p q
+
+-- ---- and each rule admits one slope only
+
+pub one-end : {h z s r : ℤ} → pos 0 <ℤ h → EndRule h z s → EndRule h z r → s ≡ r
+one-end {z = z} h₀ a b = a .sign ∙ ap (withSign z) (floor-unique h₀ (a .size) (b .size)) ∙ sym (b .sign)
+
+pub one-mean : {h₁ z₁ h₂ z₂ s r : ℤ} → pos 0 <ℤ h₁ → pos 0 <ℤ h₂ → MeanRule h₁ z₁ h₂ z₂ s → MeanRule h₁ z₁ h₂ z₂ r → s ≡ r
+one-mean {z₁ = z₁} {z₂ = z₂} p q a b = ⊎-elim (λ t. a .sign t ∙ ap (withSign z₁) (floor-unique (0<-below z₁ z₂ p q t) (a .size t) (b .size t)) ∙ sym (b .sign t)) (λ f. a .apart (at-most f) ∙ sym (b .apart (at-most f))) (<ℤ-or-not (pos 0) (z₁ *ℤ z₂))
+  where
+    at-most : (pos 0 <ℤ (z₁ *ℤ z₂) → ⊥) → (z₁ *ℤ z₂) ≤ℤ pos 0
+    at-most f = by-sign (z₁ *ℤ z₂) (λ t. absurd (f t)) <ℤ→≤ℤ (λ e. subst (λ (x : ℤ). x ≤ℤ pos 0) (sym e) (≤ℤ-refl (pos 0)))

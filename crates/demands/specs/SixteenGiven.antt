@@ -66,15 +66,17 @@ has-value {knots} {values} {x = x} w p e b =
 
 module _ {I : Implementation} (k : Keeps I) where
   a-piece : {h z m n : ℤ} {finding : Finding} → Judged h z m n (ruling 0 0 finding) → Gives I (piece h z m n finding)
-  a-piece {h} {z} {m} {n} j o p = let e = one-ruling (k .promised (judge h z m n) o p) j in (ap numberOf e, ap placeOf e, ap findingOf e)
+  a-piece {h} {z} {m} {n} j = (k .allowed (judge h z m n) _ j, λ o p. let e = one-ruling (k .promised (judge h z m n) o p) j in (ap numberOf e, ap placeOf e, ap findingOf e))
 
   some-slopes : {knots values these : List ℤ} → PointsWithin knots values → these ≡ builtSlopes knots values → Gives I (slopes knots values these)
-  some-slopes {knots} {values} p e before l o q = one-build (k .promised (build (table knots values before)) o q) (has-slopes p e l)
+  some-slopes {knots} {values} p e before l =
+      (k .allowed (build (table knots values before)) _ (has-slopes p e l), λ o q. one-build (k .promised (build (table knots values before)) o q) (has-slopes p e l))
 
   a-value : {knots values : List ℤ} {x v : ℤ} → PointsWithin knots values → WithinKnots knots x → Belongs knots x 0 → v ≡ valueOn (table knots values (builtSlopes knots values)) 0 x → Gives I (value knots values x v)
-  a-value {knots} {values} {x} p w b e before l o q r s =
+  a-value {knots} {values} {x} p w b e before l o q =
       let built = one-build (k .promised (build (table knots values before)) o q) (has-slopes p refl l) in
-      one-evaluation (k .promised (evaluate (table knots values (o .lists)) x) r s) (has-value {before = before} w b e (has-slopes p (built .2) l))
+      let is = has-value {before = before} w b e (has-slopes p (built .2) l) in
+      (k .allowed (evaluate (table knots values (o .lists)) x) _ is, λ r s. one-evaluation (k .promised (evaluate (table knots values (o .lists)) x) r s) is)
 
   pub the-sixteen-are-given : TheSixteen I
   the-sixteen-are-given = record { sixteen-of-them = refl; each-is-given = given }

@@ -7,7 +7,7 @@ use lib.Dec.{lit<}
 use lib.IntN.{ℤ, pos, negsuc}
 use lib.Signed.{leZ-yes, ltZ-yes}
 use lib.ListN.{length, set}
-use mir.Val.{toZ, ofZ}
+use mir.Val.{SFits, toZ, ofZ}
 use mir.Syntax.{w32}
 use Rattle.cubic.specs.Monotone.{monotone-rising}
 use Rattle.cubic.specs.Test.{line, short-accepts}
@@ -26,7 +26,7 @@ use Rattle.change.specs.Figures.{point-1-moved-onto-point-2}
 use Rattle.curve.specs.Curve.{Evaluated}
 use Rattle.drive.specs.Drive.{resting}
 use Rattle.drive.specs.Refused.{as-evaluated, refused-large}
-use Rattle.demands.specs.Demands.{judge, points, build, check, locate, evaluate, float-answer, changed-points, point, opposite-ends, LooksAt, its-points, a-value, Demand1}
+use Rattle.demands.specs.Demands.{Call, judge, points, build, check, locate, evaluate, float-answer, changed-points, point, Outcome, opposite-ends, LooksAt, its-points, a-value, Demand1}
 use Rattle.demands.specs.Ours.{May}
 use Rattle.demands.specs.Met.{width-taken}
 use Rattle.demands.specs.Shown.{by-a-build, by-a-check}
@@ -36,8 +36,32 @@ use Rattle.demands.specs.Programs.{outcome, answering, another-judge, an
 
 -- ======== "Any points, slopes, positions and edits may come in, from any list of any length."
 
-pub a-check-without-an-answer : Demand1 (answering (another-check (λ t o. ⊥))) → ⊥
-a-check-without-an-answer d = d .any-may-come-in (check two) tt .1
+-- a program out of which nothing comes, asked for any of its calls
+abbrev pub silent : (call : Call) → Outcome call → Type 0
+silent call o = ⊥
+
+-- for a float answer the values are 32-bit ones
+abbrev pub Asked : Call → Type 0
+Asked (float-answer t x) = (i : ℕ) → i < length (t .values) → SFits w32 (entry (t .values) i)
+Asked (judge h z m n) = Unit
+Asked (points t) = Unit
+Asked (build t) = Unit
+Asked (check t) = Unit
+Asked (locate t x) = Unit
+Asked (evaluate t x) = Unit
+Asked (changed-points c t) = Unit
+Asked (point made c t) = Unit
+
+pub a-call-without-an-answer : (call : Call) → Asked call → Demand1 (answering silent) → ⊥
+a-call-without-an-answer (judge h z m n) a d = d .any-may-come-in (judge h z m n) tt .1
+a-call-without-an-answer (points t) a d = d .any-may-come-in (points t) tt .1
+a-call-without-an-answer (build t) a d = d .any-may-come-in (build t) tt .1
+a-call-without-an-answer (check t) a d = d .any-may-come-in (check t) tt .1
+a-call-without-an-answer (locate t x) a d = d .any-may-come-in (locate t x) tt .1
+a-call-without-an-answer (evaluate t x) a d = d .any-may-come-in (evaluate t x) tt .1
+a-call-without-an-answer (float-answer t x) a d = d .any-may-come-in (float-answer t x) a .1
+a-call-without-an-answer (changed-points c t) a d = d .any-may-come-in (changed-points c t) tt .1
+a-call-without-an-answer (point made c t) a d = d .any-may-come-in (point made c t) tt .1
 
 -- ======== "is given exactly when its cause holds and no earlier one does": a refusal without its cause
 

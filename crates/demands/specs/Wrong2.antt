@@ -26,11 +26,11 @@ use Rattle.slopes.specs.Slopes.{builtSlope, builtSlopes, Built}
 use Rattle.position.specs.Position.{Belongs, inside, HoldsAt, evaluationOrder}
 use Rattle.position.specs.Pieces.{one-piece, within-list}
 use Rattle.curve.specs.Curve.{Evaluated}
-use Rattle.demands.specs.Demands.{Call, judge, Outcome, Yes, it-rises, it-falls, it-is-flat, NoSlopeAgainstItsRise, RoundedDown, ExactRoundedDown, RightSlopes, Demand2}
+use Rattle.demands.specs.Demands.{Call, judge, Outcome, CalledByItsRise, it-falls, NoSlopeAgainstItsRise, RoundedDown, ExactRoundedDown, RightSlopes, Demand2}
 use Rattle.demands.specs.Ours.{May}
 use Rattle.demands.specs.ByOrder.{none-holds}
 use Rattle.demands.specs.Cubic.{no-slope-against}
-use Rattle.demands.specs.Met.{its-value-is-exact}
+use Rattle.demands.specs.Met.{not-bends, its-value-is-exact}
 use Rattle.demands.specs.SixteenGiven.{count, has-slopes, has-value}
 use Rattle.demands.specs.Refuting.{within, numbers-differ}
 use Rattle.demands.specs.Programs.{outcome, answering, another-judge, another-build, another-check, another-evaluate, two, two-within, two-built, two-passes, three, three-within, at-1, minus-four, ByThePaper, turned-away, not-by-less}
@@ -46,18 +46,18 @@ at-the-border = no-slope-against (monotone-rising (ltZ-yes tt) (short-accepts (o
 
 -- "a verdict that always says bends"
 pub a-verdict-that-always-says-bends : Demand2 (answering (another-judge (λ h z m n o. o ≡ outcome 0 0 bends tt))) → ⊥
-a-verdict-that-always-says-bends d = elim (d .a-piece-gets-a-yes-exactly-then {o = outcome 0 0 bends tt} (within tt tt) (within tt tt) refl .1 straight) [ ]
+a-verdict-that-always-says-bends d = d .a-piece-gets-a-yes-exactly-then {o = outcome 0 0 bends tt} (within tt tt) (within tt tt) refl .1 straight refl
 
 -- a rise is called a fall
 pub a-rise-called-a-fall : Demand2 (answering (another-judge (λ h z m n o. o ≡ outcome 0 0 falling tt))) → ⊥
-a-rise-called-a-fall d = not-falling (d .a-piece-gets-a-yes-exactly-then {o = outcome 0 0 falling tt} (within tt tt) (within tt tt) refl .1 straight)
+a-rise-called-a-fall d = not-falling (d .and-is-called-by-its-rise {o = outcome 0 0 falling tt} (within tt tt) (within tt tt) refl straight)
   where
-    not-falling : Yes (pos 1) falling → ⊥
+    not-falling : CalledByItsRise (pos 1) falling → ⊥
     not-falling (it-falls l) = l .lt
 
 -- "Copying the paper's "<", which turns away 768, 768 above."
 pub the-papers-less : Demand2 (answering (another-judge ByThePaper)) → ⊥
-the-papers-less d = elim (d .a-piece-gets-a-yes-exactly-then {o = outcome 0 0 bends tt} (within tt tt) (within tt tt) (turned-away (ltZ-yes tt) not-by-less) .1 at-the-border) [ ]
+the-papers-less d = d .a-piece-gets-a-yes-exactly-then {o = outcome 0 0 bends tt} (within tt tt) (within tt tt) (turned-away (ltZ-yes tt) not-by-less) .1 at-the-border refl
 
 -- ======== the other way round: a yes where a slope is against the rise
 
@@ -67,7 +67,11 @@ against s = s .while-rising (ltZ-yes tt) 2 3 (lit≤ tt) (lit≤ tt) .le
 
 -- "or always rising"
 pub a-verdict-that-always-says-rising : Demand2 (answering (another-judge (λ h z m n o. o ≡ outcome 0 0 rising tt))) → ⊥
-a-verdict-that-always-says-rising d = against (d .a-piece-gets-a-yes-exactly-then {o = outcome 0 0 rising tt} (within tt tt) (within tt tt) refl .0 (it-rises (ltZ-yes tt)))
+a-verdict-that-always-says-rising d = against (d .a-piece-gets-a-yes-exactly-then {o = outcome 0 0 rising tt} (within tt tt) (within tt tt) refl .0 (not-bends tt))
+
+-- a rise that bends is called a fall, as if that were not a yes
+pub a-bend-called-a-fall : Demand2 (answering (another-judge (λ h z m n o. o ≡ outcome 0 0 falling tt))) → ⊥
+a-bend-called-a-fall d = against (d .a-piece-gets-a-yes-exactly-then {o = outcome 0 0 falling tt} (within tt tt) (within tt tt) refl .0 (not-bends tt))
 
 -- "Testing only that both slopes have the rise's sign, which lets 1, 1, 1025, 256 through."
 pub data BySigns (h z m n : ℤ) : Outcome (judge h z m n) → Type 0 where
@@ -76,18 +80,18 @@ pub data BySigns (h z m n : ℤ) : Outcome (judge h z m n) → Type 0 where
   otherwise : {o : Outcome (judge h z m n)} → (pos 0 <ℤ z → ⊥) → May (judge h z m n) o → BySigns h z m n o
 
 pub only-the-signs : Demand2 (answering (another-judge BySigns)) → ⊥
-only-the-signs d = against (d .a-piece-gets-a-yes-exactly-then {o = outcome 0 0 rising tt} (within tt tt) (within tt tt) (accepted (ltZ-yes tt) (leZ-yes tt) (leZ-yes tt)) .0 (it-rises (ltZ-yes tt)))
+only-the-signs d = against (d .a-piece-gets-a-yes-exactly-then {o = outcome 0 0 rising tt} (within tt tt) (within tt tt) (accepted (ltZ-yes tt) (leZ-yes tt) (leZ-yes tt)) .0 (not-bends tt))
 
 -- whatever falls is called falling: 1, −1, −256, −2000 goes up at a third of its width
 pub every-fall-taken : Demand2 (answering (another-judge (λ h z m n o. o ≡ outcome 0 0 falling tt))) → ⊥
-every-fall-taken d = up (d .a-piece-gets-a-yes-exactly-then {o = outcome 0 0 falling tt} (within tt tt) (within tt tt) refl .0 (it-falls (ltZ-yes tt)))
+every-fall-taken d = up (d .a-piece-gets-a-yes-exactly-then {o = outcome 0 0 falling tt} (within tt tt) (within tt tt) refl .0 (not-bends tt))
   where
     up : NoSlopeAgainstItsRise (pos 1) (negsuc 0) (negsuc 255) (negsuc 1999) → ⊥
     up s = s .while-falling (ltZ-yes tt) 1 3 (lit≤ tt) (lit≤ tt) .le
 
 -- whatever has no rise is called flat: 1, 0, 1, −1 is not level at half of its width
 pub level-ends-are-enough : Demand2 (answering (another-judge (λ h z m n o. o ≡ outcome 0 0 flat tt))) → ⊥
-level-ends-are-enough d = not-level (d .a-piece-gets-a-yes-exactly-then {o = outcome 0 0 flat tt} (within tt tt) (within tt tt) refl .0 (it-is-flat refl))
+level-ends-are-enough d = not-level (d .a-piece-gets-a-yes-exactly-then {o = outcome 0 0 flat tt} (within tt tt) (within tt tt) refl .0 (not-bends tt))
   where
     not-level : NoSlopeAgainstItsRise (pos 1) (pos 0) (pos 1) (negsuc 0) → ⊥
     not-level s = numbers-differ tt (s .while-level refl 1 2 (lit≤ tt) (lit≤ tt))

@@ -16,6 +16,7 @@ use Rattle.table.specs.WouldBe.{changedBy}
 use Rattle.table.specs.AfterChange.{as-changed}
 use Rattle.slopes.specs.Slopes.{builtSlopes}
 use Rattle.change.specs.Change.{Changed}
+use Rattle.change.specs.Figures.{point-1-moved-onto-point-2}
 use Rattle.demands.specs.Demands.{Call, point, Outcome, none, next, JustThis, Demand3}
 use Rattle.demands.specs.SixteenGiven.{count}
 use Rattle.demands.specs.Refuting.{numbers-differ}
@@ -145,6 +146,18 @@ slopes-that-are-not-those-built-afresh d =
     let left = its-slope-alone [] lowering four lowered in
     numbers-differ tt (ap (λ (slopes : List ℤ). entry slopes 1) (d .the-slopes-equal-those-built-afresh {t = four} {o = outcome 0 0 tt (four .slopes)} {changes = lowering ∷ []} {u = left} {again = four .slopes} {p = outcome 0 0 tt (lowered .slopes)}
     (four-built (four .slopes) refl) refl (next {o = outcome 0 0 tt left} (lowered, (is-lowered, refl)) none) refl (lowered-built (four .slopes) refl) .1))
+
+-- the same from the second change on: the first, of point 1 onto point 2, is refused
+abbrev pub from-the-second-on : List Change → Change → (before ours : Table) → Table
+from-the-second-on [] c t u = u
+from-the-second-on (before ∷ made) c t u = its-slope-alone made c t u
+
+pub a-chain-wrong-from-its-second-change-on : Demand3 (answering (leaving from-the-second-on)) → ⊥
+a-chain-wrong-from-its-second-change-on d =
+    let onto-the-next : Change = record { point = 1; knot = pos 2; value = pos 1 } in
+    let left = its-slope-alone [] lowering four lowered in
+    numbers-differ tt (ap (λ (slopes : List ℤ). entry slopes 1) (d .the-slopes-equal-those-built-afresh {t = four} {o = outcome 0 0 tt (four .slopes)} {changes = onto-the-next ∷ lowering ∷ []} {u = left} {again = four .slopes} {p = outcome 0 0 tt (lowered .slopes)}
+    (four-built (four .slopes) refl) refl (next {o = outcome 3 1 tt four} (four, (point-1-moved-onto-point-2, refl)) (next {o = outcome 0 0 tt left} (lowered, (is-lowered, refl)) none)) refl (lowered-built (four .slopes) refl) .1))
 
 -- ======== "It is refused exactly when a fresh build of the changed points would be, or the point isn't there."
 

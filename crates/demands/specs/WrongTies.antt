@@ -7,7 +7,7 @@ use lib.IntN.{ℤ, pos}
 use lib.ListN.{length}
 use denote.Ref.{RefT, now}
 use Rattle.table.specs.Table.{Table}
-use Rattle.demands.specs.Ties.{Tied, result, contents, with-first, with-third, with-three}
+use Rattle.demands.specs.Ties.{Tied, result, contents, TiedWhere, with-first, with-third, with-three}
 
 abbrev None : Type 0
 None = Unit
@@ -36,7 +36,11 @@ a-contract-with-two-answers t = absurd (omega (arith, t .1 tt tt 0 1 tt tt tt tt
 pub a-part-that-is-not-said : Tied {L = None} {W = List ℤ} {A = λ κs. None} {R = λ κs. RefT (List ℤ)} {S = λ κs. None} free (λ κs a r x. None) contents → ⊥
 a-part-that-is-not-said t = absurd (omega (arith, ap length (t .1 tt tt (holding []) (holding (pos 0 ∷ [])) tt tt tt tt)))
 
--- and three that say what is returned and nothing of a list
+-- nor one that asks for what can be had, and then says nothing
+pub two-answers-where-it-is-met : TiedWhere {L = None} {W = ℕ} {A = λ κs. None} {R = λ κs. ℕ} {S = λ κs. None} free (λ κs a r x. None) result → ⊥
+two-answers-where-it-is-met t = absurd (omega (arith, t tt tt 0 1 tt tt tt tt tt))
+
+-- and those that say what is returned and nothing of a list, or what a list holds and nothing of what is returned
 abbrev of-the-answer-alone : None → None → ℕ → lists → Type 0
 of-the-answer-alone κs a r x = r ≡ 0
 
@@ -48,3 +52,21 @@ a-third-list-left-open t = absurd (omega (arith, ap (λ (seen : ℕ × List ℤ)
 
 pub a-second-list-left-open : Tied {L = None} {W = ℕ × Table} {A = λ κs. None} {R = λ κs. ℕ} {S = λ κs. lists} free of-the-answer-alone with-three → ⊥
 a-second-list-left-open t = absurd (omega (arith, ap (λ (seen : ℕ × Table). length (seen .1 .values)) (t .1 tt tt 0 0 (three [] [] []) (three [] (pos 0 ∷ []) []) refl refl)))
+
+pub a-first-of-three-left-open : Tied {L = None} {W = ℕ × Table} {A = λ κs. None} {R = λ κs. ℕ} {S = λ κs. lists} free of-the-answer-alone with-three → ⊥
+a-first-of-three-left-open t = absurd (omega (arith, ap (λ (seen : ℕ × Table). length (seen .1 .knots)) (t .1 tt tt 0 0 (three [] [] []) (three (pos 0 ∷ []) [] []) refl refl)))
+
+pub a-third-of-three-left-open : Tied {L = None} {W = ℕ × Table} {A = λ κs. None} {R = λ κs. ℕ} {S = λ κs. lists} free of-the-answer-alone with-three → ⊥
+a-third-of-three-left-open t = absurd (omega (arith, ap (λ (seen : ℕ × Table). length (seen .1 .slopes)) (t .1 tt tt 0 0 (three [] [] []) (three [] [] (pos 0 ∷ [])) refl refl)))
+
+abbrev of-no-answer : None → None → ℕ → lists → Type 0
+of-no-answer κs a r x = None
+
+pub two-answers-with-a-first-list : Tied {L = None} {W = ℕ × List ℤ} {A = λ κs. None} {R = λ κs. ℕ} {S = λ κs. lists} free of-no-answer with-first → ⊥
+two-answers-with-a-first-list t = absurd (omega (arith, ap (λ (seen : ℕ × List ℤ). seen .0) (t .1 tt tt 0 1 (three [] [] []) (three [] [] []) tt tt)))
+
+pub two-answers-with-a-third-list : Tied {L = None} {W = ℕ × List ℤ} {A = λ κs. None} {R = λ κs. ℕ} {S = λ κs. lists} free of-no-answer with-third → ⊥
+two-answers-with-a-third-list t = absurd (omega (arith, ap (λ (seen : ℕ × List ℤ). seen .0) (t .1 tt tt 0 1 (three [] [] []) (three [] [] []) tt tt)))
+
+pub two-answers-with-three-lists : Tied {L = None} {W = ℕ × Table} {A = λ κs. None} {R = λ κs. ℕ} {S = λ κs. lists} free of-no-answer with-three → ⊥
+two-answers-with-three-lists t = absurd (omega (arith, ap (λ (seen : ℕ × Table). seen .0) (t .1 tt tt 0 1 (three [] [] []) (three [] [] []) tt tt)))
