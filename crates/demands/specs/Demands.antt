@@ -4,7 +4,7 @@
 --
 -- How to read it:
 --   f x y                         f of x and y; a relation may be written before its last ones: `CauseOf (check t) = Holds t` says that the cause is that of `Holds t`, at any number and place
---   A → B → C                     if A and B then C; → is read last: A → B × C ↔ D is A → ((B × C) ↔ D)
+--   A → B → C                     if A and B then C; → is read last: A → B ↔ C is A → (B ↔ C)
 --   A ↔ B, A × B, A ⊎ B           A exactly if B; A and B; A or B
 --   A → ⊥, x ≡ y                  not A; x equals y
 --   (i : ℕ) → A, (i : ℕ) × A      A for every i; there is an i of which A holds. {i : ℕ} in place of (i : ℕ) says the same

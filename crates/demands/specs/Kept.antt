@@ -2,6 +2,7 @@
 -- promise, which asks nothing of the caller.
 use mathlib.Core.Bool.{false}
 use mathlib.Core.Path.{_≡_, refl, sym, subst}
+use mathlib.Core.List.{List}
 use Prim.Native.Nat.{ℕ, zero, suc}
 use native.Mathlib.Omega.{arith}
 use lib.Dec.{lit≤}
@@ -10,6 +11,7 @@ use lib.Ieee.{Float, fin, binary64, ofInt}
 use Rattle.floats.specs.Exactly.{plus-zero, cast-exactly}
 use Rattle.rules.specs.declared.Refusal.{Refusal}
 use Rattle.rules.specs.Refusals.{Given}
+use Rattle.table.specs.declared.changed.Change.{Change}
 use Rattle.table.specs.Table.{Table, Holds, buildOrder, checkOrder}
 use Rattle.table.specs.WouldBe.{HoldsAfter, changeOrder}
 use Rattle.piece.specs.declared.Verdict.{Verdict}
@@ -43,6 +45,18 @@ pub record Keeps (I : Implementation) : Type 0 where
   pub allowed : (call : Call) (o : Outcome call) → Promised call o → I .May call o
   pub free : (call : Call) → I .Asks call
 
+-- what holds of each kind of call holds of every one
+each-call : (P : Call → Type 0) → ((h z m n : ℤ) → P (judge h z m n)) → ((t : Table) → P (points t)) → ((t : Table) → P (build t)) → ((t : Table) → P (check t)) → ((t : Table) (x : ℤ) → P (locate t x)) → ((t : Table) (x : ℤ) → P (evaluate t x)) → ((t : Table) (x : ℤ) → P (float-answer t x)) → ((c : Change) (t : Table) → P (changed-points c t)) → ((made : List Change) (c : Change) (t : Table) → P (point made c t)) → (call : Call) → P call
+each-call O J P B C L E F D Q (judge h z m n) = J h z m n
+each-call O J P B C L E F D Q (points t) = P t
+each-call O J P B C L E F D Q (build t) = B t
+each-call O J P B C L E F D Q (check t) = C t
+each-call O J P B C L E F D Q (locate t x) = L t x
+each-call O J P B C L E F D Q (evaluate t x) = E t x
+each-call O J P B C L E F D Q (float-answer t x) = F t x
+each-call O J P B C L E F D Q (changed-points c t) = D c t
+each-call O J P B C L E F D Q (point made c t) = Q made c t
+
 -- a ruling is what some case of the enum says, and so is a telling
 verdict-of : {h z m n : ℤ} {a : Ruling} → Judged h z m n a → (r : Verdict) × (rulingOf r ≡ a)
 verdict-of (width-refused f) = (Refused (record { number = 3; place = 0 }), refl)
@@ -57,7 +71,7 @@ case-of (dwell level) = (Dwell level, refl)
 case-of (move from above below) = (Move (record { left = from; numerator = above; denominator = below }), refl)
 
 pub ours-keeps : Keeps ours
-ours-keeps = record { promised = promised; allowed = allowed; free = free }
+ours-keeps = record { promised = promised; allowed = allowed; free = each-call (ours .Asks) (λ h z m n. tt) (λ t. tt) (λ t. tt) (λ t. tt) (λ t x. tt) (λ t x. tt) (λ t x. tt) (λ c t. tt) (λ made c t. tt) }
   where
     promised : (call : Call) (o : Outcome call) → ours .May call o → Promised call o
     promised (judge h z m n) o p = subst (Judged h z m n) (p .says) (p .promised)
@@ -80,17 +94,6 @@ ours-keeps = record { promised = promised; allowed = allowed; free = free }
     allowed (float-answer t x) o p = let r = case-of (o .answer) in record { told = r .0; says = r .1; promised = subst (Driving t x (o .number) (o .place)) (sym (r .1)) p }
     allowed (changed-points c t) o p = p
     allowed (point made c t) o p = p
-
-    free : (call : Call) → ours .Asks call
-    free (judge h z m n) = tt
-    free (points t) = tt
-    free (build t) = tt
-    free (check t) = tt
-    free (locate t x) = tt
-    free (evaluate t x) = tt
-    free (float-answer t x) = tt
-    free (changed-points c t) = tt
-    free (point made c t) = tt
 
 -- ---- in C a verdict crosses as its number, and what the drive is told as a record
 
@@ -136,7 +139,7 @@ crossing {k = k} {p} (move from above below) d =
     record { told = record { refusal = record { number = k; place = p }; kind = 1; left = from; numerator = above; denominator = below }; refused-by = refl; says = a-move refl; promised = moves d }
 
 pub ours-in-C-keeps : Keeps ours-in-C
-ours-in-C-keeps = record { promised = promised; allowed = allowed; free = free }
+ours-in-C-keeps = record { promised = promised; allowed = allowed; free = each-call (ours-in-C .Asks) (λ h z m n. tt) (λ t. tt) (λ t. tt) (λ t. tt) (λ t x. tt) (λ t x. tt) (λ t x. tt) (λ c t. tt) (λ made c t. tt) }
   where
     promised : (call : Call) (o : Outcome call) → ours-in-C .May call o → Promised call o
     promised (judge h z m n) o p = subst (λ (w : Finding). Judged h z m n (ruling (o .number) (o .place) w)) (there-and-back (o .answer)) (by-number p)
@@ -159,14 +162,3 @@ ours-in-C-keeps = record { promised = promised; allowed = allowed; free = free }
     allowed (float-answer t x) o p = crossing (o .answer) p
     allowed (changed-points c t) o p = p
     allowed (point made c t) o p = p
-
-    free : (call : Call) → ours-in-C .Asks call
-    free (judge h z m n) = tt
-    free (points t) = tt
-    free (build t) = tt
-    free (check t) = tt
-    free (locate t x) = tt
-    free (evaluate t x) = tt
-    free (float-answer t x) = tt
-    free (changed-points c t) = tt
-    free (point made c t) = tt

@@ -34,106 +34,56 @@ outcome number place answer lists = record { number = number; place = place; ans
 abbrev pub answering : ((call : Call) → Outcome call → Type 0) → Implementation
 answering may = record { Asks = Asks; May = may }
 
--- ---- ours, but for one call, of which `Wrong` says what may come out
+-- ---- what may come out, call by call
+
+abbrev by-call : ((h z m n : ℤ) → Outcome (judge h z m n) → Type 0)
+    → ((t : Table) → Outcome (points t) → Type 0)
+    → ((t : Table) → Outcome (build t) → Type 0)
+    → ((t : Table) → Outcome (check t) → Type 0)
+    → ((t : Table) (x : ℤ) → Outcome (locate t x) → Type 0)
+    → ((t : Table) (x : ℤ) → Outcome (evaluate t x) → Type 0)
+    → ((t : Table) (x : ℤ) → Outcome (float-answer t x) → Type 0)
+    → ((c : Change) (t : Table) → Outcome (changed-points c t) → Type 0)
+    → ((made : List Change) (c : Change) (t : Table) → Outcome (point made c t) → Type 0)
+    → (call : Call) → Outcome call → Type 0
+by-call J P B C L E F D Q (judge h z m n) = J h z m n
+by-call J P B C L E F D Q (points t) = P t
+by-call J P B C L E F D Q (build t) = B t
+by-call J P B C L E F D Q (check t) = C t
+by-call J P B C L E F D Q (locate t x) = L t x
+by-call J P B C L E F D Q (evaluate t x) = E t x
+by-call J P B C L E F D Q (float-answer t x) = F t x
+by-call J P B C L E F D Q (changed-points c t) = D c t
+by-call J P B C L E F D Q (point made c t) = Q made c t
+
+-- ours, but for one call, of which `Wrong` says what may come out
 
 abbrev pub another-judge : ((h z m n : ℤ) → Outcome (judge h z m n) → Type 0) → (call : Call) → Outcome call → Type 0
-another-judge Wrong (judge h z m n) o = Wrong h z m n o
-another-judge Wrong (points t) o = May (points t) o
-another-judge Wrong (build t) o = May (build t) o
-another-judge Wrong (check t) o = May (check t) o
-another-judge Wrong (locate t x) o = May (locate t x) o
-another-judge Wrong (evaluate t x) o = May (evaluate t x) o
-another-judge Wrong (float-answer t x) o = May (float-answer t x) o
-another-judge Wrong (changed-points c t) o = May (changed-points c t) o
-another-judge Wrong (point made c t) o = May (point made c t) o
+another-judge Wrong = by-call Wrong (λ t. May (points t)) (λ t. May (build t)) (λ t. May (check t)) (λ t x. May (locate t x)) (λ t x. May (evaluate t x)) (λ t x. May (float-answer t x)) (λ c t. May (changed-points c t)) (λ made c t. May (point made c t))
 
 abbrev pub another-points : ((t : Table) → Outcome (points t) → Type 0) → (call : Call) → Outcome call → Type 0
-another-points Wrong (judge h z m n) o = May (judge h z m n) o
-another-points Wrong (points t) o = Wrong t o
-another-points Wrong (build t) o = May (build t) o
-another-points Wrong (check t) o = May (check t) o
-another-points Wrong (locate t x) o = May (locate t x) o
-another-points Wrong (evaluate t x) o = May (evaluate t x) o
-another-points Wrong (float-answer t x) o = May (float-answer t x) o
-another-points Wrong (changed-points c t) o = May (changed-points c t) o
-another-points Wrong (point made c t) o = May (point made c t) o
+another-points Wrong = by-call (λ h z m n. May (judge h z m n)) Wrong (λ t. May (build t)) (λ t. May (check t)) (λ t x. May (locate t x)) (λ t x. May (evaluate t x)) (λ t x. May (float-answer t x)) (λ c t. May (changed-points c t)) (λ made c t. May (point made c t))
 
 abbrev pub another-build : ((t : Table) → Outcome (build t) → Type 0) → (call : Call) → Outcome call → Type 0
-another-build Wrong (judge h z m n) o = May (judge h z m n) o
-another-build Wrong (points t) o = May (points t) o
-another-build Wrong (build t) o = Wrong t o
-another-build Wrong (check t) o = May (check t) o
-another-build Wrong (locate t x) o = May (locate t x) o
-another-build Wrong (evaluate t x) o = May (evaluate t x) o
-another-build Wrong (float-answer t x) o = May (float-answer t x) o
-another-build Wrong (changed-points c t) o = May (changed-points c t) o
-another-build Wrong (point made c t) o = May (point made c t) o
+another-build Wrong = by-call (λ h z m n. May (judge h z m n)) (λ t. May (points t)) Wrong (λ t. May (check t)) (λ t x. May (locate t x)) (λ t x. May (evaluate t x)) (λ t x. May (float-answer t x)) (λ c t. May (changed-points c t)) (λ made c t. May (point made c t))
 
 abbrev pub another-check : ((t : Table) → Outcome (check t) → Type 0) → (call : Call) → Outcome call → Type 0
-another-check Wrong (judge h z m n) o = May (judge h z m n) o
-another-check Wrong (points t) o = May (points t) o
-another-check Wrong (build t) o = May (build t) o
-another-check Wrong (check t) o = Wrong t o
-another-check Wrong (locate t x) o = May (locate t x) o
-another-check Wrong (evaluate t x) o = May (evaluate t x) o
-another-check Wrong (float-answer t x) o = May (float-answer t x) o
-another-check Wrong (changed-points c t) o = May (changed-points c t) o
-another-check Wrong (point made c t) o = May (point made c t) o
+another-check Wrong = by-call (λ h z m n. May (judge h z m n)) (λ t. May (points t)) (λ t. May (build t)) Wrong (λ t x. May (locate t x)) (λ t x. May (evaluate t x)) (λ t x. May (float-answer t x)) (λ c t. May (changed-points c t)) (λ made c t. May (point made c t))
 
 abbrev pub another-locate : ((t : Table) (x : ℤ) → Outcome (locate t x) → Type 0) → (call : Call) → Outcome call → Type 0
-another-locate Wrong (judge h z m n) o = May (judge h z m n) o
-another-locate Wrong (points t) o = May (points t) o
-another-locate Wrong (build t) o = May (build t) o
-another-locate Wrong (check t) o = May (check t) o
-another-locate Wrong (locate t x) o = Wrong t x o
-another-locate Wrong (evaluate t x) o = May (evaluate t x) o
-another-locate Wrong (float-answer t x) o = May (float-answer t x) o
-another-locate Wrong (changed-points c t) o = May (changed-points c t) o
-another-locate Wrong (point made c t) o = May (point made c t) o
+another-locate Wrong = by-call (λ h z m n. May (judge h z m n)) (λ t. May (points t)) (λ t. May (build t)) (λ t. May (check t)) Wrong (λ t x. May (evaluate t x)) (λ t x. May (float-answer t x)) (λ c t. May (changed-points c t)) (λ made c t. May (point made c t))
 
 abbrev pub another-evaluate : ((t : Table) (x : ℤ) → Outcome (evaluate t x) → Type 0) → (call : Call) → Outcome call → Type 0
-another-evaluate Wrong (judge h z m n) o = May (judge h z m n) o
-another-evaluate Wrong (points t) o = May (points t) o
-another-evaluate Wrong (build t) o = May (build t) o
-another-evaluate Wrong (check t) o = May (check t) o
-another-evaluate Wrong (locate t x) o = May (locate t x) o
-another-evaluate Wrong (evaluate t x) o = Wrong t x o
-another-evaluate Wrong (float-answer t x) o = May (float-answer t x) o
-another-evaluate Wrong (changed-points c t) o = May (changed-points c t) o
-another-evaluate Wrong (point made c t) o = May (point made c t) o
+another-evaluate Wrong = by-call (λ h z m n. May (judge h z m n)) (λ t. May (points t)) (λ t. May (build t)) (λ t. May (check t)) (λ t x. May (locate t x)) Wrong (λ t x. May (float-answer t x)) (λ c t. May (changed-points c t)) (λ made c t. May (point made c t))
 
 abbrev pub another-float-answer : ((t : Table) (x : ℤ) → Outcome (float-answer t x) → Type 0) → (call : Call) → Outcome call → Type 0
-another-float-answer Wrong (judge h z m n) o = May (judge h z m n) o
-another-float-answer Wrong (points t) o = May (points t) o
-another-float-answer Wrong (build t) o = May (build t) o
-another-float-answer Wrong (check t) o = May (check t) o
-another-float-answer Wrong (locate t x) o = May (locate t x) o
-another-float-answer Wrong (evaluate t x) o = May (evaluate t x) o
-another-float-answer Wrong (float-answer t x) o = Wrong t x o
-another-float-answer Wrong (changed-points c t) o = May (changed-points c t) o
-another-float-answer Wrong (point made c t) o = May (point made c t) o
+another-float-answer Wrong = by-call (λ h z m n. May (judge h z m n)) (λ t. May (points t)) (λ t. May (build t)) (λ t. May (check t)) (λ t x. May (locate t x)) (λ t x. May (evaluate t x)) Wrong (λ c t. May (changed-points c t)) (λ made c t. May (point made c t))
 
 abbrev pub another-changed-points : ((c : Change) (t : Table) → Outcome (changed-points c t) → Type 0) → (call : Call) → Outcome call → Type 0
-another-changed-points Wrong (judge h z m n) o = May (judge h z m n) o
-another-changed-points Wrong (points t) o = May (points t) o
-another-changed-points Wrong (build t) o = May (build t) o
-another-changed-points Wrong (check t) o = May (check t) o
-another-changed-points Wrong (locate t x) o = May (locate t x) o
-another-changed-points Wrong (evaluate t x) o = May (evaluate t x) o
-another-changed-points Wrong (float-answer t x) o = May (float-answer t x) o
-another-changed-points Wrong (changed-points c t) o = Wrong c t o
-another-changed-points Wrong (point made c t) o = May (point made c t) o
+another-changed-points Wrong = by-call (λ h z m n. May (judge h z m n)) (λ t. May (points t)) (λ t. May (build t)) (λ t. May (check t)) (λ t x. May (locate t x)) (λ t x. May (evaluate t x)) (λ t x. May (float-answer t x)) Wrong (λ made c t. May (point made c t))
 
 abbrev pub another-point : ((made : List Change) (c : Change) (t : Table) → Outcome (point made c t) → Type 0) → (call : Call) → Outcome call → Type 0
-another-point Wrong (judge h z m n) o = May (judge h z m n) o
-another-point Wrong (points t) o = May (points t) o
-another-point Wrong (build t) o = May (build t) o
-another-point Wrong (check t) o = May (check t) o
-another-point Wrong (locate t x) o = May (locate t x) o
-another-point Wrong (evaluate t x) o = May (evaluate t x) o
-another-point Wrong (float-answer t x) o = May (float-answer t x) o
-another-point Wrong (changed-points c t) o = May (changed-points c t) o
-another-point Wrong (point made c t) o = Wrong made c t o
+another-point Wrong = by-call (λ h z m n. May (judge h z m n)) (λ t. May (points t)) (λ t. May (build t)) (λ t. May (check t)) (λ t x. May (locate t x)) (λ t x. May (evaluate t x)) (λ t x. May (float-answer t x)) (λ c t. May (changed-points c t)) Wrong
 
 -- ---- the first demand's middle sentence, both ways, of a call whose right refusal is known
 

@@ -40,7 +40,7 @@ use Rattle.demands.specs.Programs.{outcome, answering, another-judge, an
 abbrev pub silent : (call : Call) → Outcome call → Type 0
 silent call o = ⊥
 
--- for a float answer the values are 32-bit ones
+-- What it is asked for: the same as `MayComeIn`, said again, so that the demand cannot be made to speak of fewer calls unseen.
 abbrev pub Asked : Call → Type 0
 Asked (float-answer t x) = (i : ℕ) → i < length (t .values) → SFits w32 (entry (t .values) i)
 Asked (judge h z m n) = Unit
