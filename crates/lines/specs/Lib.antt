@@ -1,0 +1,4 @@
+pub mod Taking
+pub mod Onward
+pub mod Determined
+pub mod Examples
