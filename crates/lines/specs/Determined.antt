@@ -1,7 +1,6 @@
 -- What is said of a piece of a line that is taken fixes all that is answered, and the buffer.
 use Prim.Native.Nat.{ℕ}
 use mathlib.Core.Path.{_≡_, sym, _∙_}
-use mathlib.Core.Bool.{Bool}
 use mathlib.Core.List.{List}
 use Rattle.words.specs.Determined.{one-count, one-buffer}
 use Rattle.lines.specs.declared.Taken.{Taken}

@@ -9,7 +9,7 @@ use lib.Dec.{ltb}
 use lib.ListN.{length}
 use Rattle.words.specs.Runs.{by-test, run-within}
 use Rattle.words.specs.Lines.{other}
-use Rattle.lines.specs.Taking.{endOf, behind, Taking}
+use Rattle.lines.specs.Taking.{endOf, Taking}
 
 pub onward : {before : List ℕ} {held : ℕ} {chunk : List ℕ} {from : ℕ} {after : List ℕ} {n next : ℕ} {whole : Bool}
     → Taking before held chunk from after n next whole → from < length chunk → (from < next) × (next ≤ length chunk)

@@ -2,7 +2,7 @@
 use Prim.Native.Nat.{ℕ}
 use mathlib.Core.Path.{_≡_, refl}
 use mathlib.Core.List.{List, [], _∷_}
-use lib.IntN.{ℤ, pos, negsuc}
+use lib.IntN.{pos, negsuc}
 use Rattle.words.specs.Words.{wordsAfter, wordsOf}
 use Rattle.decimals.specs.Decimal.{areDigits, natural}
 use Rattle.decimals.specs.Text.{spelled}

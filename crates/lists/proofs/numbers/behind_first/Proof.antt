@@ -1,5 +1,5 @@
 -- `lists::numbers::behind_first` meets its contract, by the walk over the words: behind the first word are the others, and where there is no word there are none.
-use mathlib.Core.Path.{_≡_, sym, ap, _∙_}
+use mathlib.Core.Path.{sym, ap, _∙_}
 use lib.ListN.{drop}
 use Rattle.words.specs.Walk.{a-word, no-word}
 use borrow.Author.Needs.{needs}

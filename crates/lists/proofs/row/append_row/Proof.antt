@@ -1,8 +1,8 @@
 -- `lists::row::append_row` meets its contract: the first i entries of the row are appended; a turn appends one more.
-use Prim.Native.Nat.{ℕ, suc, _-_, _≤_}
+use Prim.Native.Nat.{ℕ, _-_, _≤_}
 use native.Mathlib.Omega.{arith}
 use native.Mathlib.Numerals.{add-one}
-use mathlib.Core.Path.{_≡_, refl, sym, ap, _∙_, subst}
+use mathlib.Core.Path.{_≡_, refl, ap, _∙_, subst}
 use mathlib.Core.List.{List, [], _++_}
 use denote.Ref.{now}
 use lib.IntN.{ℤ, pos}
