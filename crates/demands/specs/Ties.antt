@@ -40,6 +40,10 @@ use Rattle.decimals.proofs.whole32.Reads as decimals·whole32
 use Rattle.decimals.proofs.append_natural.Reads as decimals·append_natural
 use Rattle.decimals.proofs.append_whole.Reads as decimals·append_whole
 use Rattle.decimals.proofs.append_whole32.Reads as decimals·append_whole32
+use Rattle.answers.proofs.natural.Reads as answers·natural
+use Rattle.answers.proofs.whole.Reads as answers·whole
+use Rattle.answers.proofs.fill.Reads as answers·fill
+use Rattle.answers.proofs.entry.Reads as answers·entry
 use Rattle.rules.proofs.count_within.Reads as rules·count_within
 use Rattle.rules.proofs.width_within.Reads as rules·width_within
 use Rattle.rules.proofs.rise_within.Reads as rules·rise_within
@@ -184,6 +188,20 @@ decimals·append_whole-tied = (λ κs a. tt, λ κs a r s x y p q. λ i. (one-co
 
 pub decimals·append_whole32-tied : Tied decimals·append_whole32.Pre decimals·append_whole32.Post with-first
 decimals·append_whole32-tied = (λ κs a. tt, λ κs a r s x y p q. λ i. (one-count p q i, one-buffer p q i))
+
+-- ---- answers
+
+pub answers·natural-tied : Tied answers·natural.Pre answers·natural.Post result
+answers·natural-tied = (λ κs a. tt, λ κs a r s x y p q. p ∙ sym q)
+
+pub answers·whole-tied : Tied answers·whole.Pre answers·whole.Post result
+answers·whole-tied = (λ κs a. tt, λ κs a r s x y p q. p ∙ sym q)
+
+pub answers·fill-tied : Tied answers·fill.Pre answers·fill.Post with-first
+answers·fill-tied = (λ κs a. tt, λ κs a r s x y p q. λ i. (one-count p q i, one-buffer p q i))
+
+pub answers·entry-tied : Tied answers·entry.Pre answers·entry.Post contents
+answers·entry-tied = (λ κs a. tt, λ κs a r s x y p q. p ∙ sym q)
 
 -- ---- rules
 
