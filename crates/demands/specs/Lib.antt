@@ -22,6 +22,7 @@ pub mod Wrong2
 pub mod Wrong3
 pub mod WrongAnswers
 pub mod WrongDrives
+pub mod WrongLists
 pub mod WrongNumbers
 pub mod WrongPieces
 pub mod WrongTables

@@ -4,7 +4,7 @@ ghost use Rattle.lists.specs.Lists.{rowOf};
 ghost use Rattle.lists.specs.Rows.{entryOf};
 
 // Puts the numbers of a list, with a space between two, behind the first `held` bytes of `into`, and answers how many bytes stand there then. Where there is too little room the
-// last bytes are left out, as `append` does.
+// last bytes are left out, as `append` does; an empty list, too, leaves no more held than there is room for.
 pub fn append_row(into: &mut [u8], held: usize, list: &[i32]) -> usize
     ensures { λ r. ⌜ Appended (now (into .entry)) held (rowOf (now (list .entry))) (now (into .exit)) r ⌝ }
 {
