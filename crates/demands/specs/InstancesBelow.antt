@@ -17,7 +17,9 @@ use Rattle.decimals.specs.Decimal.{areDigits, natural}
 use Rattle.decimals.specs.Text.{spelled}
 use Rattle.decimals.specs.declared.reading.Number as Number
 use Rattle.decimals.specs.declared.reading.Number32 as Number32
-use Rattle.demands.specs.Contracts.{SaysMonotone, HasCoefficients, Steps, Renews, Spots}
+use Rattle.lists.specs.Lists.{readingFrom, numbersOf, spaced}
+use Rattle.lists.specs.declared.outcome.Reading.the-variants.{Numbers}
+use Rattle.demands.specs.Contracts.{list, SaysMonotone, HasCoefficients, Steps, Renews, Spots}
 use Rattle.demands.specs.Programs.{two, four}
 use Rattle.demands.specs.Refuting.{within}
 use Rattle.demands.specs.SixteenGiven.{count}
@@ -38,16 +40,23 @@ use Rattle.decimals.proofs.whole32.Reads as decimals·whole32
 use Rattle.decimals.proofs.append_natural.Reads as decimals·append_natural
 use Rattle.decimals.proofs.append_whole.Reads as decimals·append_whole
 use Rattle.decimals.proofs.append_whole32.Reads as decimals·append_whole32
+use Rattle.lines.proofs.take.Reads as lines·take
+use Rattle.lists.proofs.reading.Reads as lists·reading
+use Rattle.lists.proofs.set.Reads as lists·set
+use Rattle.lists.proofs.append_row.Reads as lists·append_row
 
-abbrev bytes : List ℕ → RefT (List ℕ)
+abbrev pub bytes : List ℕ → RefT (List ℕ)
 bytes bs = record { ptr = (0, 0); name = 0; now = bs }
 
--- `ab c`, `-7`, and a buffer of four bytes of which the first is held
+-- `ab c`, `-7`, `k 5 -7`, and a buffer of four bytes of which the first is held
 abbrev words : List ℕ
 words = 97 ∷ 98 ∷ 32 ∷ 99 ∷ []
 
 abbrev minus-seven : List ℕ
 minus-seven = 45 ∷ 55 ∷ []
+
+abbrev command : List ℕ
+command = 107 ∷ 32 ∷ 53 ∷ 32 ∷ 45 ∷ 55 ∷ []
 
 abbrev buffer : List ℕ
 buffer = 61 ∷ 0 ∷ 0 ∷ 0 ∷ []
@@ -74,6 +83,11 @@ pub record WorkedBelow : Type 0 where
   pub append-natural : decimals·append_natural.Post ([], tt) (bytes buffer, (1, (7, tt))) 2 (bytes (61 ∷ 55 ∷ 0 ∷ 0 ∷ []), (1, (7, tt)))
   pub append-whole : decimals·append_whole.Post ([], tt) (bytes buffer, (1, (negsuc 6, tt))) 3 (bytes (61 ∷ 45 ∷ 55 ∷ 0 ∷ []), (1, (negsuc 6, tt)))
   pub append-whole32 : decimals·append_whole32.Post ([], tt) (bytes buffer, (1, (negsuc 6, tt))) 3 (bytes (61 ∷ 45 ∷ 55 ∷ 0 ∷ []), (1, (negsuc 6, tt)))
+  -- `b`, LF ends a line that begins with what is held; `k 5 -7` puts 5 and −7 in front of a list, and the two are written so
+  pub take : lines·take.Post ([], ([], tt)) (bytes buffer, (1, (bytes (98 ∷ 10 ∷ []), (0, tt)))) (record { held = 2; next = 2; whole = true }) (bytes (61 ∷ 98 ∷ 0 ∷ 0 ∷ []), (1, (bytes (98 ∷ 10 ∷ []), (0, tt))))
+  pub reading : lists·reading.Post ([], tt) (bytes command, (1, tt)) Numbers (bytes command, (1, tt))
+  pub set : lists·set.Post ([], ([], tt)) (list (pos 0 ∷ pos 0 ∷ pos 1 ∷ []), (bytes command, tt)) 2 (list (pos 5 ∷ negsuc 6 ∷ pos 1 ∷ []), (bytes command, tt))
+  pub append-row : lists·append_row.Post ([], ([], tt)) (bytes buffer, (0, (list (pos 5 ∷ negsuc 6 ∷ []), tt))) 4 (bytes (53 ∷ 32 ∷ 45 ∷ 55 ∷ []), (0, (list (pos 5 ∷ negsuc 6 ∷ []), tt)))
   -- 1, 1, 256, 256 is monotone and a line; the steps, renewed slopes and a position of (0,0), (1,1), (2,4), (3,7) and of (0,0), (3,−10)
   pub is-monotone : SaysMonotone (pos 1) (pos 1) (pos 256) (pos 256) true
   pub coefficients : HasCoefficients (pos 1) (pos 1) (pos 256) (pos 256) (pos 256) (pos 0) (pos 0)
@@ -82,7 +96,7 @@ pub record WorkedBelow : Type 0 where
   pub spot-on : Spots two (pos 1) 0 (record { left = pos 0; h = pos 3; z = negsuc 9; m = negsuc 852; n = negsuc 852; t = pos 1 })
 
 pub worked-below : WorkedBelow
-unfolding front wordsAfter areDigits natural spelled
+unfolding front wordsAfter areDigits natural spelled readingFrom numbersOf spaced
 worked-below =
     record {
       difference = refl;
@@ -102,6 +116,10 @@ worked-below =
       append-natural = record { counted = refl; buffer = refl };
       append-whole = record { counted = refl; buffer = refl };
       append-whole32 = record { counted = refl; buffer = refl };
+      take = record { gathered = record { counted = refl; buffer = refl }; following = refl; ended = refl };
+      reading = refl;
+      set = record { counted = refl; placed = refl };
+      append-row = record { counted = refl; buffer = refl };
       is-monotone = holds (monotone-rising (ltZ-yes tt) (short-accepts (line (leZ-yes tt) (leZ-yes tt) (leZ-yes tt))));
       coefficients = record { first-is = refl; second-is = refl; third-is = refl };
       step = refl;

@@ -21,6 +21,7 @@ pub mod Wrong16
 pub mod Wrong2
 pub mod Wrong3
 pub mod WrongDrives
+pub mod WrongLists
 pub mod WrongNumbers
 pub mod WrongPieces
 pub mod WrongTables

@@ -8,6 +8,8 @@ use lib.IntN.{ℤ}
 use denote.Ref.{RefT, now}
 use Rattle.integers.specs.Decided.{one-decision}
 use Rattle.words.specs.Determined.{one-count, one-buffer}
+use Rattle.lines.specs.Determined.{one-taken, one-line}
+use Rattle.lists.specs.Determined.{one-set, one-list}
 use Rattle.rules.specs.declared.Refusal.{Refusal}
 use Rattle.rules.specs.Refusals.{Given}
 use Rattle.rules.specs.Order.{one-given}
@@ -40,6 +42,10 @@ use Rattle.decimals.proofs.whole32.Reads as decimals·whole32
 use Rattle.decimals.proofs.append_natural.Reads as decimals·append_natural
 use Rattle.decimals.proofs.append_whole.Reads as decimals·append_whole
 use Rattle.decimals.proofs.append_whole32.Reads as decimals·append_whole32
+use Rattle.lines.proofs.take.Reads as lines·take
+use Rattle.lists.proofs.reading.Reads as lists·reading
+use Rattle.lists.proofs.set.Reads as lists·set
+use Rattle.lists.proofs.append_row.Reads as lists·append_row
 use Rattle.rules.proofs.count_within.Reads as rules·count_within
 use Rattle.rules.proofs.width_within.Reads as rules·width_within
 use Rattle.rules.proofs.rise_within.Reads as rules·rise_within
@@ -184,6 +190,20 @@ decimals·append_whole-tied = (λ κs a. tt, λ κs a r s x y p q. λ i. (one-co
 
 pub decimals·append_whole32-tied : Tied decimals·append_whole32.Pre decimals·append_whole32.Post with-first
 decimals·append_whole32-tied = (λ κs a. tt, λ κs a r s x y p q. λ i. (one-count p q i, one-buffer p q i))
+
+-- ---- lines, lists
+
+pub lines·take-tied : Tied lines·take.Pre lines·take.Post with-first
+lines·take-tied = (λ κs a. tt, λ κs a r s x y p q. λ i. (one-taken {r = r} {s = s} p q i, one-line {r = r} {s = s} p q i))
+
+pub lists·reading-tied : Tied lists·reading.Pre lists·reading.Post result
+lists·reading-tied = (λ κs a. tt, λ κs a r s x y p q. p ∙ sym q)
+
+pub lists·set-tied : Tied lists·set.Pre lists·set.Post with-first
+lists·set-tied = (λ κs a. tt, λ κs a r s x y p q. λ i. (one-set p q i, one-list p q i))
+
+pub lists·append_row-tied : Tied lists·append_row.Pre lists·append_row.Post with-first
+lists·append_row-tied = (λ κs a. tt, λ κs a r s x y p q. λ i. (one-count p q i, one-buffer p q i))
 
 -- ---- rules
 

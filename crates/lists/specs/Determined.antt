@@ -7,8 +7,8 @@ use lib.ListN.{length, take, drop}
 use Rattle.lists.specs.Lists.{Setting}
 
 module _ {list numbers x y : List ℤ} {r s : ℕ} (p : Setting list numbers x r) (q : Setting list numbers y s) where
-  pub one-count : r ≡ s
-  one-count = p .counted ∙ sym (q .counted)
+  pub one-set : r ≡ s
+  one-set = p .counted ∙ sym (q .counted)
 
   pub one-list : x ≡ y
-  one-list = p .placed ∙ ap (λ (n : ℕ). take (length list) numbers ++ drop n list) one-count ∙ sym (q .placed)
+  one-list = p .placed ∙ ap (λ (n : ℕ). take (length list) numbers ++ drop n list) one-set ∙ sym (q .placed)
