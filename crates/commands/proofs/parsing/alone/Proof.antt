@@ -1,0 +1,20 @@
+-- `commands::parsing::alone` meets its contract: it is made as its definition is.
+use borrow.Author.Needs.{needs}
+use mathlib.Core.Path.{refl, ap, ap₂, _∙_}
+use mir.Facts.{toZ-ofZ}
+use Rattle.commands.specs.declared.asked.Command.the-variants.{Build}
+use Rattle.commands.specs.Commands.{_orElse_, unless}
+use Rattle.commands.proofs.parsing.alone.Statement.{statement}
+use Rattle.commands.proofs.parsing.alone.Tie as tie
+
+count-requires : tie.Need-count-requires
+count-requires c κs = search needs
+
+unless-faulty-requires : tie.Need-unless-faulty-requires
+unless-faulty-requires c κs = search needs
+
+returns : tie.Need-returns
+returns c = c .unless-faulty .ensures ∙ ap₂ unless (c .before .count .ensures) refl
+
+pub alone-spec : {M : Type 1} → statement M
+alone-spec = tie.close (tie.spec count-requires unless-faulty-requires returns)

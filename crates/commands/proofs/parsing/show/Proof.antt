@@ -1,0 +1,28 @@
+-- `commands::parsing::show` meets its contract: it is made as its definition is.
+use borrow.Author.Needs.{needs}
+use mathlib.Core.Path.{refl, ap, ap₂, _∙_}
+use mir.Facts.{toZ-ofZ}
+use Rattle.commands.specs.declared.asked.Command.the-variants.{Show}
+use Rattle.commands.specs.Commands.{unless, shownOf}
+use Rattle.commands.proofs.parsing.show.Statement.{statement}
+use Rattle.commands.proofs.parsing.show.Tie as tie
+
+count-requires : tie.Need-count-requires
+count-requires c κs = search needs
+
+word-at-requires : tie.Need-word-at-requires
+word-at-requires c κs = search needs
+
+shown-requires : tie.Need-shown-requires
+shown-requires c κs = search needs
+
+unless-faulty-requires : tie.Need-unless-faulty-requires
+unless-faulty-requires c κs = search needs
+
+returns : tie.Need-returns
+returns c = c .unless-faulty .ensures ∙ ap₂ unless (c .before .before .before .count .ensures) (c .before .shown .ensures ∙ ap shownOf (c .before .before .word-at .ensures))
+
+pub show-spec : {M : Type 1} → statement M
+show-spec =
+    tie.close
+    (tie.spec count-requires word-at-requires shown-requires unless-faulty-requires returns)

@@ -1,0 +1,215 @@
+-- What a line asks for. A line is the list of its bytes, without its ending; a word is the list of its own.
+use Prim.Native.Nat.{ℕ, _-_}
+use mathlib.Core.Bool.{Bool, true, false, cond, _&&_}
+use mathlib.Core.List.{List, [], _∷_}
+use lib.Dec.{ltb, eqb}
+use lib.IntN.{ℤ, pos}
+use lib.ListN.{length, getD}
+use Rattle.words.specs.Words.{wordsOf}
+use Rattle.decimals.specs.declared.reading.Number
+use Rattle.decimals.specs.declared.reading.Number32
+use Rattle.decimals.specs.Decimal.{numberOf, number32Of}
+use Rattle.lists.specs.declared.outcome.Reading
+use Rattle.lists.specs.Lists.{readingOf}
+use Rattle.commands.specs.declared.asked.List as Lists
+use Rattle.commands.specs.declared.asked.List.the-variants.{Knots, Values, Slopes}
+use Rattle.commands.specs.declared.asked.Fault
+use Rattle.commands.specs.declared.asked.Fault.the-variants.{TooLong, NoCommand, TooFew, TooMany, NoList, NotDecimal, Beyond32, Beyond64}
+use Rattle.commands.specs.declared.asked.Command.{Command}
+use Rattle.commands.specs.declared.asked.Command.the-variants.{Nothing, Wrong, Set, Show, Piece, Build, Check, At, Drive, Change}
+use Rattle.commands.specs.declared.findings.Finding.{Finding}
+use Rattle.commands.specs.declared.findings.Finding.the-variants.{Clear, Faulty}
+
+-- ---- what is found of a command's words, which are counted from 1
+
+-- as many as they should be
+unfoldable pub counted : ℕ → List (List ℕ) → Finding
+counted n words = cond (ltb (length words) n) (Faulty TooFew) (cond (ltb n (length words)) (Faulty TooMany) Clear)
+
+-- word k; it has no byte where there is no such word
+abbrev pub wordAt : ℕ → List (List ℕ) → List ℕ
+wordAt k words = getD words (k - 1) []
+
+-- word k is a number of 64 bits, or of 32
+abbrev pub found64 : ℕ → Number.Number → Finding
+found64 k (Number.the-variants.Is n) = Clear
+found64 k Number.the-variants.NotDecimal = Faulty (NotDecimal k)
+found64 k Number.the-variants.TooLarge = Faulty (Beyond64 k)
+
+abbrev pub found32 : ℕ → Number32.Number32 → Finding
+found32 k (Number32.the-variants.Is n) = Clear
+found32 k Number32.the-variants.NotDecimal = Faulty (NotDecimal k)
+found32 k Number32.the-variants.TooLarge = Faulty (Beyond32 k)
+
+unfoldable pub isWide : ℕ → List (List ℕ) → Finding
+isWide k words = found64 k (numberOf (wordAt k words))
+
+unfoldable pub isNarrow : ℕ → List (List ℕ) → Finding
+isNarrow k words = found32 k (number32Of (wordAt k words))
+
+-- the number that it is; 0 where it is none
+abbrev pub value64 : Number.Number → ℤ
+value64 (Number.the-variants.Is n) = n
+value64 Number.the-variants.NotDecimal = pos 0
+value64 Number.the-variants.TooLarge = pos 0
+
+abbrev pub value32 : Number32.Number32 → ℤ
+value32 (Number32.the-variants.Is n) = n
+value32 Number32.the-variants.NotDecimal = pos 0
+value32 Number32.the-variants.TooLarge = pos 0
+
+unfoldable pub wide : ℕ → List (List ℕ) → ℤ
+wide k words = value64 (numberOf (wordAt k words))
+
+unfoldable pub narrow : ℕ → List (List ℕ) → ℤ
+narrow k words = value32 (number32Of (wordAt k words))
+
+-- no more words than a list has room for, and each a number of 32 bits
+abbrev pub foundList : Reading.Reading → Finding
+foundList Reading.the-variants.Numbers = Clear
+foundList (Reading.the-variants.NotDecimal k) = Faulty (NotDecimal k)
+foundList (Reading.the-variants.Beyond k) = Faulty (Beyond32 k)
+
+unfoldable pub isList : List (List ℕ) → Finding
+isList words = cond (ltb 2048 (length words)) (Faulty TooMany) (foundList (readingOf words))
+
+-- ---- the first fault
+
+infixl 30 _orElse_
+-- what is found first, unless it is clear
+unfoldable pub _orElse_ : Finding → Finding → Finding
+_orElse_ Clear next = next
+_orElse_ (Faulty f) next = Faulty f
+
+-- a command, unless a fault is found
+unfoldable pub unless : Finding → Command → Command
+unless Clear command = command
+unless (Faulty f) command = Wrong f
+
+-- ---- names
+
+-- `knots`
+abbrev knots : List ℕ
+knots = 107 ∷ 110 ∷ 111 ∷ 116 ∷ 115 ∷ []
+
+-- `values`
+abbrev values : List ℕ
+values = 118 ∷ 97 ∷ 108 ∷ 117 ∷ 101 ∷ 115 ∷ []
+
+-- `slopes`
+abbrev slopes : List ℕ
+slopes = 115 ∷ 108 ∷ 111 ∷ 112 ∷ 101 ∷ 115 ∷ []
+
+-- `show`
+abbrev show : List ℕ
+show = 115 ∷ 104 ∷ 111 ∷ 119 ∷ []
+
+-- `piece`
+abbrev piece : List ℕ
+piece = 112 ∷ 105 ∷ 101 ∷ 99 ∷ 101 ∷ []
+
+-- `build`
+abbrev build : List ℕ
+build = 98 ∷ 117 ∷ 105 ∷ 108 ∷ 100 ∷ []
+
+-- `check`
+abbrev check : List ℕ
+check = 99 ∷ 104 ∷ 101 ∷ 99 ∷ 107 ∷ []
+
+-- `at`
+abbrev at : List ℕ
+at = 97 ∷ 116 ∷ []
+
+-- `drive`
+abbrev drive : List ℕ
+drive = 100 ∷ 114 ∷ 105 ∷ 118 ∷ 101 ∷ []
+
+-- `change`
+abbrev change : List ℕ
+change = 99 ∷ 104 ∷ 97 ∷ 110 ∷ 103 ∷ 101 ∷ []
+
+-- two words are the same
+unfoldable pub same : List ℕ → List ℕ → Bool
+same [] [] = true
+same [] (c ∷ cs) = false
+same (b ∷ bs) [] = false
+same (b ∷ bs) (c ∷ cs) = eqb b c && same bs cs
+
+-- what is asked for beside the first name that the word is, or else where it is none of them
+unfoldable pub chosen : List (List ℕ × Command) → Command → List ℕ → Command
+chosen [] otherwise word = otherwise
+chosen (entry ∷ entries) otherwise word = cond (same word (entry .0)) (entry .1) (chosen entries otherwise word)
+
+-- ---- the commands, each by the words after its name
+
+-- `knots N...` and its like
+abbrev pub setOf : Lists.List → List (List ℕ) → Command
+setOf list words = unless (isList words) (Set list)
+
+-- `show LIST`
+abbrev pub listTable : List (List ℕ × Command)
+listTable = (knots, Show Knots) ∷ (values, Show Values) ∷ (slopes, Show Slopes) ∷ []
+
+abbrev pub shownOf : List ℕ → Command
+shownOf name = chosen listTable (Wrong NoList) name
+
+abbrev pub showOf : List (List ℕ) → Command
+showOf words = unless (counted 1 words) (shownOf (wordAt 1 words))
+
+-- `piece H Z M N`
+abbrev pub pieceOf : List (List ℕ) → Command
+pieceOf words =
+    unless (counted 4 words orElse isWide 1 words orElse isWide 2 words orElse isNarrow 3 words orElse isNarrow 4 words)
+    (Piece (record { h = wide 1 words; z = wide 2 words; m = narrow 3 words; n = narrow 4 words }))
+
+-- `build`, `check`
+abbrev pub aloneOf : Command → List (List ℕ) → Command
+aloneOf command words = unless (counted 0 words) command
+
+-- `at X`
+abbrev pub atOf : List (List ℕ) → Command
+atOf words = unless (counted 1 words orElse isNarrow 1 words) (At (narrow 1 words))
+
+-- `drive X`
+abbrev pub driveOf : List (List ℕ) → Command
+driveOf words = unless (counted 1 words orElse isNarrow 1 words) (Drive (narrow 1 words))
+
+-- `change K X V`
+abbrev pub changeOf : List (List ℕ) → Command
+changeOf words =
+    unless (counted 3 words orElse isWide 1 words orElse isNarrow 2 words orElse isNarrow 3 words)
+    (Change (record { number = wide 1 words; knot = narrow 2 words; value = narrow 3 words }))
+
+-- ---- the line
+
+-- every name, and what the words after it ask for
+abbrev pub commandTable : List (List ℕ) → List (List ℕ × Command)
+commandTable words =
+    (knots, setOf Knots words)
+    ∷ (values, setOf Values words)
+    ∷ (slopes, setOf Slopes words)
+    ∷ (show, showOf words)
+    ∷ (piece, pieceOf words)
+    ∷ (build, aloneOf Build words)
+    ∷ (check, aloneOf Check words)
+    ∷ (at, atOf words)
+    ∷ (drive, driveOf words)
+    ∷ (change, changeOf words)
+    ∷ []
+
+abbrev pub asked : List ℕ → List (List ℕ) → Command
+asked name words = chosen (commandTable words) (Wrong NoCommand) name
+
+-- a line whose very first byte is `#`
+abbrev pub isComment : List ℕ → Bool
+isComment [] = false
+isComment (b ∷ bs) = eqb b 35
+
+-- what words ask for, of which the first names the command
+abbrev pub byWords : List (List ℕ) → Command
+byWords [] = Nothing
+byWords (name ∷ words) = asked name words
+
+-- no line of more than 65,536 bytes is looked into
+abbrev pub commandOf : List ℕ → Command
+commandOf line = cond (ltb 65536 (length line)) (Wrong TooLong) (cond (isComment line) Nothing (byWords (wordsOf line)))

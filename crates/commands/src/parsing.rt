@@ -1,0 +1,153 @@
+// Which command a line has, and what its words ask for: a function for each command, over the line and where the command's name ends.
+ghost use mathlib.Core.Path.{_≡_};
+ghost use lib.ListN.{drop};
+ghost use Rattle.words.specs.Words.{wordsOf, partOf};
+ghost use Rattle.commands.specs.Commands.{isComment, setOf, shownOf, showOf, pieceOf, aloneOf, atOf, driveOf, changeOf, asked, commandOf};
+use crate::asked::Command;
+use crate::asked::Fault;
+use crate::asked::List;
+use crate::asked::Piece;
+use crate::asked::Point;
+use crate::findings::count;
+use crate::findings::is_list;
+use crate::findings::is_narrow;
+use crate::findings::is_wide;
+use crate::findings::or_else;
+use crate::findings::unless_faulty;
+use crate::naming::place;
+use crate::numbers::narrow_at;
+use crate::numbers::wide_at;
+use crate::numbers::word_at;
+
+// The longest line that is answered, without its ending.
+const LONGEST: usize = 65536;
+
+// What a line, without its ending, asks for.
+pub fn parse(line: &[u8]) -> Command
+    ensures { λ r. ⌜ r ≡ commandOf (now (line .entry)) ⌝ }
+{
+    if LONGEST < line.len() {
+        return Command::Wrong(Fault::TooLong);
+    }
+    if is_comment(line) {
+        return Command::Nothing;
+    }
+    match words::next_word(line, 0) {
+        words::Word::At { start, end } => named(line, start, end),
+        words::Word::Nothing => Command::Nothing,
+    }
+}
+
+fn is_comment(line: &[u8]) -> bool
+    ensures { λ r. ⌜ r ≡ isComment (now (line .entry)) ⌝ }
+{
+    if line.len() == 0 {
+        return false;
+    }
+    line[0] == b'#'
+}
+
+// What the command asks for whose name stands from `start` to `end`. The arms are in the order of the names.
+fn named(line: &[u8], start: usize, end: usize) -> Command
+    ensures { λ r. ⌜ r ≡ asked (partOf (now (line .entry)) start end) (wordsOf (drop end (now (line .entry)))) ⌝ }
+{
+    let name = words::part(line, start, end);
+    match place(
+        name,
+        b"knots values slopes show piece build check at drive change",
+    ) {
+        0 => set(line, end, List::Knots),
+        1 => set(line, end, List::Values),
+        2 => set(line, end, List::Slopes),
+        3 => show(line, end),
+        4 => piece(line, end),
+        5 => alone(line, end, Command::Build),
+        6 => alone(line, end, Command::Check),
+        7 => at(line, end),
+        8 => drive(line, end),
+        9 => change(line, end),
+        _ => Command::Wrong(Fault::NoCommand),
+    }
+}
+
+// `knots N...` and its like.
+fn set(line: &[u8], from: usize, list: List) -> Command
+    ensures { λ r. ⌜ r ≡ setOf list (wordsOf (drop from (now (line .entry)))) ⌝ }
+{
+    unless_faulty(is_list(line, from), Command::Set(list))
+}
+
+// `show LIST`.
+fn show(line: &[u8], from: usize) -> Command
+    ensures { λ r. ⌜ r ≡ showOf (wordsOf (drop from (now (line .entry)))) ⌝ }
+{
+    unless_faulty(count(line, from, 1), shown(word_at(line, from, 1)))
+}
+
+fn shown(name: &[u8]) -> Command
+    ensures { λ r. ⌜ r ≡ shownOf (now (name .entry)) ⌝ }
+{
+    match place(name, b"knots values slopes") {
+        0 => Command::Show(List::Knots),
+        1 => Command::Show(List::Values),
+        2 => Command::Show(List::Slopes),
+        _ => Command::Wrong(Fault::NoList),
+    }
+}
+
+// `piece H Z M N`.
+fn piece(line: &[u8], from: usize) -> Command
+    ensures { λ r. ⌜ r ≡ pieceOf (wordsOf (drop from (now (line .entry)))) ⌝ }
+{
+    let found = count(line, from, 4);
+    let found = or_else(found, is_wide(line, from, 1));
+    let found = or_else(found, is_wide(line, from, 2));
+    let found = or_else(found, is_narrow(line, from, 3));
+    let found = or_else(found, is_narrow(line, from, 4));
+    let piece = Piece {
+        h: wide_at(line, from, 1),
+        z: wide_at(line, from, 2),
+        m: narrow_at(line, from, 3),
+        n: narrow_at(line, from, 4),
+    };
+    unless_faulty(found, Command::Piece(piece))
+}
+
+// `build` and `check`, which have no words.
+fn alone(line: &[u8], from: usize, command: Command) -> Command
+    ensures { λ r. ⌜ r ≡ aloneOf command (wordsOf (drop from (now (line .entry)))) ⌝ }
+{
+    unless_faulty(count(line, from, 0), command)
+}
+
+// `at X`.
+fn at(line: &[u8], from: usize) -> Command
+    ensures { λ r. ⌜ r ≡ atOf (wordsOf (drop from (now (line .entry)))) ⌝ }
+{
+    let found = or_else(count(line, from, 1), is_narrow(line, from, 1));
+    unless_faulty(found, Command::At(narrow_at(line, from, 1)))
+}
+
+// `drive X`.
+fn drive(line: &[u8], from: usize) -> Command
+    ensures { λ r. ⌜ r ≡ driveOf (wordsOf (drop from (now (line .entry)))) ⌝ }
+{
+    let found = or_else(count(line, from, 1), is_narrow(line, from, 1));
+    unless_faulty(found, Command::Drive(narrow_at(line, from, 1)))
+}
+
+// `change K X V`.
+fn change(line: &[u8], from: usize) -> Command
+    ensures { λ r. ⌜ r ≡ changeOf (wordsOf (drop from (now (line .entry)))) ⌝ }
+{
+    let found = count(line, from, 3);
+    let found = or_else(found, is_wide(line, from, 1));
+    let found = or_else(found, is_narrow(line, from, 2));
+    let found = or_else(found, is_narrow(line, from, 3));
+    let point = Point {
+        number: wide_at(line, from, 1),
+        knot: narrow_at(line, from, 2),
+        value: narrow_at(line, from, 3),
+    };
+    unless_faulty(found, Command::Change(point))
+}
