@@ -13,24 +13,27 @@ use Rattle.words.specs.Runs.{by-test}
 use Rattle.answers.specs.declared.filling.Signed.{Signed}
 use Rattle.answers.specs.Filling.{inPlace, leftBehind, filled}
 
-module _ (template text : List ℕ) (numbers : List Signed) (i : ℕ) where
-  -- the byte at i, and what follows it
-  pub filled-on : i < length template
-      → filled (drop i template) text numbers ≡ inPlace (getD template i 0) text numbers ++ filled (drop (i + 1) template) text (leftBehind (getD template i 0) numbers)
-  unfolding filled
-  filled-on h = rw (add-one, drop-cons template i 0 h)
+module _ (template text : List ℕ) (numbers : List Signed) (i k : ℕ) where
+  byte : ℕ
+  byte = getD template i 0
+
+  -- the numbers left behind a byte, where k of them have been passed before it
+  left-so : leftBehind byte (drop k numbers) ≡ drop (cond (eqb byte 35) (k + 1) k) numbers
+  left-so =
+      by-test (eqb byte 35)
+      (λ (t : eqb byte 35 ≡ true). rw t (drop-drop 1 k numbers))
+      (λ (t : eqb byte 35 ≡ false). rw t)
+
+  -- byte i and what follows it
+  pub filled-on : (next : ℕ) → i < length template → next ≡ cond (eqb (getD template i 0) 35) (k + 1) k
+      → filled (drop i template) text (drop k numbers) ≡ inPlace (getD template i 0) text (drop k numbers) ++ filled (drop (i + 1) template) text (drop next numbers)
+  unfolding filled byte
+  filled-on next h e = rw (e, ← left-so, add-one, drop-cons template i 0 h)
 
   -- past the end nothing follows
-  pub filled-out : length template ≤ i → filled (drop i template) text numbers ≡ []
+  pub filled-out : length template ≤ i → filled (drop i template) text (drop k numbers) ≡ []
   unfolding filled
   filled-out h = rw (drop-of-length-le template h)
-
--- the numbers left behind a byte, where k of them have been passed before it
-pub left-so : (b k : ℕ) (numbers : List Signed) → leftBehind b (drop k numbers) ≡ drop (cond (eqb b 35) (k + 1) k) numbers
-left-so b k numbers =
-    by-test (eqb b 35)
-    (λ (t : eqb b 35 ≡ true). rw t (drop-drop 1 k numbers))
-    (λ (t : eqb b 35 ≡ false). rw t)
 
 -- a first part of `all` has been put, and `rest` is left: whatever appends the rest to the buffer as it is appends all to the buffer as it was
 pub record Begun (before : List ℕ) (held : ℕ) (all rest after : List ℕ) (r : ℕ) : Type 0 where

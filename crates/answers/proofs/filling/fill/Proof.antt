@@ -1,8 +1,8 @@
 -- `answers::filling::fill` meets its contract. The loop has put what stands for the first i bytes of the template, and k numbers; a turn puts what stands for one more.
 use Prim.Native.Nat.{ℕ, _+_, _-_, _≤_}
 use native.Mathlib.Omega.{arith}
-use mathlib.Core.Path.{_≡_, refl, sym, ap, _∙_, subst⁻¹}
-use mathlib.Core.List.{List, [], _∷_, _++_}
+use mathlib.Core.Path.{_≡_, refl, subst⁻¹}
+use mathlib.Core.List.{List, [], _∷_}
 use mathlib.Core.Bool.{true, false, cond}
 use lib.Dec.{eqb}
 use denote.Ref.{now}
@@ -11,7 +11,7 @@ use Rattle.words.specs.Lines.{Appended}
 use Rattle.words.specs.Runs.{by-test}
 use Rattle.answers.specs.declared.filling.Signed.{Signed}
 use Rattle.answers.specs.Filling.{inPlace, filled}
-use Rattle.answers.specs.Places.{Begun, filled-on, filled-out, left-so, go-on}
+use Rattle.answers.specs.Places.{Begun, filled-on, filled-out, go-on}
 use borrow.Author.Needs.{needs}
 use Rattle.answers.proofs.filling.fill.Statement.{statement}
 use Rattle.answers.proofs.filling.fill.Tie as tie
@@ -54,12 +54,12 @@ loop-again c =
     let numbers : List Signed = a .first ∷ a .second ∷ a .third ∷ [] in
     let k = at-loop .loop .k in
     let i = at-loop .loop .i in
-    let on = filled-on (now (a .template)) (now (a .text)) (drop k numbers) i (c .before .before .before .before .before .before .loop-test .taken) in
-    let left = left-so (getD (now (a .template)) i 0) k numbers ∙ ap (λ (m : ℕ). drop m numbers) (sym (c .passed .ensures)) in (
+    let byte = getD (now (a .template)) i 0 in (
       go-on (at-loop .loop .inv .0)
-          (on ∙ ap (λ (l : List Signed). inPlace (getD (now (a .template)) i 0) (now (a .text)) (drop k numbers) ++ filled (drop (i + 1) (now (a .template))) (now (a .text)) l) left)
+          {more = inPlace byte (now (a .text)) (drop k numbers)}
+          (filled-on (now (a .template)) (now (a .text)) numbers i k (c .passed .result) (c .before .before .before .before .before .before .loop-test .taken) (c .passed .ensures))
           (c .before .before .before .place .ensures),
-      omega (arith, passed-one (getD (now (a .template)) i 0) k, c .passed .ensures),
+      omega (arith, passed-one byte k, c .passed .ensures),
       search needs,
     )
 
@@ -78,7 +78,7 @@ returns c =
     let a = at-loop .before .before .before .before .args in
     let r = c .before .before .append in
     let numbers : List Signed = a .first ∷ a .second ∷ a .third ∷ [] in
-    let out = filled-out (now (a .template)) (now (a .text)) (drop (at-loop .loop .k) numbers) (at-loop .loop .i) (c .before .before .before .before .before .loop-test .left) in
+    let out = filled-out (now (a .template)) (now (a .text)) numbers (at-loop .loop .i) (at-loop .loop .k) (c .before .before .before .before .before .loop-test .left) in
     at-loop .loop .inv .0 .ended (subst⁻¹ (λ (l : List ℕ). Appended (at-loop .loop .into) (at-loop .loop .n) l (r .last .0) (r .result)) out (r .ensures))
 
 pub fill-spec : {M : Type 1} → statement M
