@@ -1,150 +1,91 @@
-// Lines out of standard input, of any number and length. A line is gathered, piece by piece, in a buffer that is lent from call to call.
-// It has two bytes more than the longest line that is answered: a CR may end such a line, and one byte past that tells
-// that a line is too long, so nothing is lost where the buffer is full. The lists that commands work on are lent along with it.
-use crate::commands;
-use crate::lists::Lengths;
-use crate::lists::ROOM;
+// Lines out of standard input, of any number and length.
 
-// What is known between two reads: how many bytes of a line are held, which line that is, whether more may come, and how long the lists are.
-struct Lines {
-    held: usize,
-    number: u64,
-    open: bool,
-    lengths: Lengths,
+// The room for a line. It has two bytes more than the longest line that is answered: a CR may end such a line, and one byte past that tells that a line is
+// too long, so nothing is lost where the room is full.
+pub const LONGEST: usize = 65538;
+
+// The room for what one read brings.
+pub const CHUNK: usize = 65536;
+
+// What is known between two reads: how many bytes of a line are held, which line that is and whether it is whole, how many bytes the last read brought and
+// where in them the next line starts, and whether more may come.
+pub struct Input {
+    pub held: usize,
+    pub number: u64,
+    pub whole: bool,
+    pub filled: usize,
+    pub at: usize,
+    pub open: bool,
 }
 
-// A proved loop has to end, and nothing says that the input does. So the loop counts its turns down, from a number that no run uses up.
-pub fn serve() {
-    let mut line_space = [0u8; 65538];
-    let mut knots_space = [0i32; ROOM];
-    let mut values_space = [0i32; ROOM];
-    let mut slopes_space = [0i32; ROOM];
-    let line: &mut [u8] = &mut line_space;
-    let knots: &mut [i32] = &mut knots_space;
-    let values: &mut [i32] = &mut values_space;
-    let slopes: &mut [i32] = &mut slopes_space;
-    let mut lines = at_first();
+// Nothing is read yet.
+pub fn start() -> Input {
+    Input {
+        held: 0,
+        number: 0,
+        whole: true,
+        filled: 0,
+        at: 0,
+        open: true,
+    }
+}
+
+// The next line, whole. What stands behind the last LF is a line too, unless it is empty.
+pub fn next(line: &mut [u8; LONGEST], chunk: &mut [u8; CHUNK], before: Input) -> Input {
+    let mut input = following(before);
     let mut turns = u64::MAX;
-    while turns > 0 && lines.open {
-        lines = read_some(line, lines, knots, values, slopes);
+    while turns > 0 && input.open && !input.whole {
+        input = step(line, chunk, input);
         turns -= 1;
     }
-    if 0 < lines.held {
-        answered(line, lines, knots, values, slopes);
+    input
+}
+
+// Nothing is held of the line after this one. No input has so many lines that the count stands still.
+fn following(before: Input) -> Input {
+    let mut input = before;
+    input.held = 0;
+    input.whole = false;
+    if input.number < u64::MAX {
+        input.number += 1;
+    }
+    input
+}
+
+// Goes on by what was read, or reads.
+fn step(line: &mut [u8; LONGEST], chunk: &mut [u8; CHUNK], input: Input) -> Input {
+    if input.at < input.filled {
+        gather(line, chunk, input)
+    } else {
+        read(chunk, input)
     }
 }
 
-// Nothing is read, and the lists are empty.
-fn at_first() -> Lines {
-    let lengths = Lengths {
-        knots: 0,
-        values: 0,
-        slopes: 0,
-    };
-    Lines {
-        held: 0,
-        number: 1,
-        open: true,
-        lengths,
-    }
+// Puts what was read, up to where the line ends, behind what is held of it.
+fn gather(line: &mut [u8; LONGEST], chunk: &[u8; CHUNK], before: Input) -> Input {
+    let mut input = before;
+    let taken = lines::take(
+        line,
+        input.held,
+        words::part(chunk, 0, input.filled),
+        input.at,
+    );
+    input.held = taken.held;
+    input.at = taken.next;
+    input.whole = taken.whole;
+    input
 }
 
-// Reads once, and answers the lines that end in what came. A read that fails is said on standard error and ends the run: what is held of a line is
-// then no line.
-fn read_some(
-    line: &mut [u8],
-    lines: Lines,
-    knots: &mut [i32],
-    values: &mut [i32],
-    slopes: &mut [i32],
-) -> Lines {
-    let mut buffer = io::large_buffer();
-    let got = libc::read(libc::STDIN_FILENO, &mut buffer);
+// Reads once. A read that fails is said on standard error and ends the run: what is held of a line is then no line.
+fn read(chunk: &mut [u8; CHUNK], before: Input) -> Input {
+    let mut input = before;
+    let got = libc::read(libc::STDIN_FILENO, chunk);
+    input.filled = io::count(got, chunk);
+    input.at = 0;
+    input.open = 0 < got;
     if got < 0 {
         os::fail(b"negwafir: standard input");
-        return closed(lines, 0);
+        input.held = 0;
     }
-    let n = io::count(got, &buffer);
-    if n == 0 {
-        return closed(lines, lines.held);
-    }
-    split(line, &buffer[..n], lines, knots, values, slopes)
-}
-
-// No more may come.
-fn closed(before: Lines, held: usize) -> Lines {
-    let mut lines = before;
-    lines.held = held;
-    lines.open = false;
-    lines
-}
-
-// Takes a chunk apart at its line ends.
-fn split(
-    line: &mut [u8],
-    chunk: &[u8],
-    before: Lines,
-    knots: &mut [i32],
-    values: &mut [i32],
-    slopes: &mut [i32],
-) -> Lines {
-    let mut lines = before;
-    let mut at = 0;
-    while at < chunk.len() {
-        let end = words::find(chunk, at, b'\n');
-        let piece = words::part(chunk, at, end);
-        at = end + 1;
-        lines = gather(line, piece, end < chunk.len(), lines, knots, values, slopes);
-    }
-    lines
-}
-
-// Puts a piece of a line behind what is held, and answers the line where the piece is its last. Once an answer could not be written nothing
-// more is answered.
-fn gather(
-    line: &mut [u8],
-    piece: &[u8],
-    is_last: bool,
-    before: Lines,
-    knots: &mut [i32],
-    values: &mut [i32],
-    slopes: &mut [i32],
-) -> Lines {
-    let mut lines = before;
-    if !lines.open {
-        return lines;
-    }
-    lines.held = words::append(line, lines.held, piece);
-    if !is_last {
-        return lines;
-    }
-    answered(line, lines, knots, values, slopes)
-}
-
-// Answers the line that is held, and holds nothing of the next.
-fn answered(
-    line: &[u8],
-    lines: Lines,
-    knots: &mut [i32],
-    values: &mut [i32],
-    slopes: &mut [i32],
-) -> Lines {
-    let content = words::part(line, 0, lines.held);
-    let done = commands::answer(content, lines.number, knots, values, slopes, lines.lengths);
-    let lengths = done.lengths;
-    Lines {
-        held: 0,
-        number: following(lines.number),
-        open: done.written,
-        lengths,
-    }
-}
-
-// The number of the next line. No input has so many lines that the count stands still.
-fn following(number: u64) -> u64 {
-    if number < u64::MAX {
-        number + 1
-    } else {
-        number
-    }
+    input
 }

@@ -1,8 +1,8 @@
--- `negwafir::changes::numbered` is safe: a number that is not negative fits.
+-- `negwafir::desk::numbered` is safe: a number that is not negative fits.
 use borrow.Author.Needs.{needs}
 use Rattle.decimals.specs.Natural.{fits-natural}
-use Rattle.negwafir.proofs.changes.numbered.Statement.{statement}
-use Rattle.negwafir.proofs.changes.numbered.Tie as tie
+use Rattle.negwafir.proofs.desk.numbered.Statement.{statement}
+use Rattle.negwafir.proofs.desk.numbered.Tie as tie
 
 returns : tie.Need-returns
 returns c = search needs

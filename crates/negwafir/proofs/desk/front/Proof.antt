@@ -1,10 +1,10 @@
--- `negwafir::lists::front` is safe: the length is within the list.
+-- `negwafir::desk::front` is safe: the length is within the list.
 use borrow.Author.Needs.{needs}
 use native.Mathlib.Omega.{arith}
 use mathlib.Core.Path.{sym}
 use lib.Seq.{length-take-le}
-use Rattle.negwafir.proofs.lists.front.Statement.{statement}
-use Rattle.negwafir.proofs.lists.front.Tie as tie
+use Rattle.negwafir.proofs.desk.front.Statement.{statement}
+use Rattle.negwafir.proofs.desk.front.Tie as tie
 
 returns : tie.Need-returns
 returns c = search needs
