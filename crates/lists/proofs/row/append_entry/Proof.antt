@@ -1,6 +1,6 @@
 -- `lists::row::append_entry` meets its contract: a space or nothing, and the number.
 use Prim.Native.Nat.{ℕ}
-use mathlib.Core.Path.{_≡_, ap, ap₂, _∙_, subst}
+use mathlib.Core.Path.{ap₂, _∙_, subst}
 use mathlib.Core.List.{List, _++_}
 use denote.Ref.{now}
 use lib.IntN.{ℤ}
