@@ -1,4 +1,4 @@
--- `words::lines::copy` meets its contract. The loop has pasted the first `i` bytes; a turn pastes one more.
+-- `words::stream::copy` meets its contract. The loop has pasted the first `i` bytes; a turn pastes one more.
 use Prim.Native.Nat.{_+_, _-_, _≤_}
 use native.Mathlib.Omega.{arith}
 use native.Mathlib.Numerals.{add-one}
@@ -6,8 +6,8 @@ use denote.Ref.{now}
 use mathlib.Core.Path.{_≡_, refl, ap, _∙_}
 use lib.ListN.{length, getD, length-set}
 use lib.Seq.{paste, paste-zero, paste-suc}
-use Rattle.words.proofs.lines.copy.Statement.{statement}
-use Rattle.words.proofs.lines.copy.Tie as tie
+use Rattle.words.proofs.stream.copy.Statement.{statement}
+use Rattle.words.proofs.stream.copy.Tie as tie
 
 abbrev Inv-loop : tie.InvT-loop
 Inv-loop into₀ at more n i₀ into i = (i ≤ n) × (into ≡ paste into₀ at more i) × (length into ≡ length into₀)

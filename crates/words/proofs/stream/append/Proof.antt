@@ -1,4 +1,4 @@
--- `words::lines::append` meets its contract: the buffer was full, or took as much as it had room for, or took all.
+-- `words::stream::append` meets its contract: the buffer was full, or took as much as it had room for, or took all.
 use Prim.Native.Nat.{_-_}
 use native.Mathlib.Omega.{arith}
 use mathlib.Core.Path.{refl, sym, _∙_}
@@ -7,8 +7,8 @@ use lib.ListN.{length}
 use lib.Seq.{take-all}
 use Rattle.words.specs.Joining.{full, copied}
 use borrow.Author.Needs.{needs}
-use Rattle.words.proofs.lines.append.Statement.{statement}
-use Rattle.words.proofs.lines.append.Tie as tie
+use Rattle.words.proofs.stream.append.Statement.{statement}
+use Rattle.words.proofs.stream.append.Tie as tie
 
 returns : tie.Need-returns
 returns c = let a = c .before .before .before .args in full (now (a .into)) (a .held) (now (a .more)) (c .if1 .taken)

@@ -1,4 +1,4 @@
--- `words::lines::find` meets its contract: it walks a run of other bytes.
+-- `words::stream::find` meets its contract: it walks a run of other bytes.
 use borrow.Author.Needs.{needs}
 use borrow.Author.Tests.{eq-eqb, ne-eqb}
 use Prim.Native.Nat.{_-_}
@@ -7,8 +7,8 @@ use mathlib.Core.Bool.{not}
 use lib.ListN.{length}
 use Rattle.words.specs.Lines.{firstOf}
 use Rattle.words.specs.Runs.{run-out, run-stop, run-on}
-use Rattle.words.proofs.lines.find.Statement.{statement}
-use Rattle.words.proofs.lines.find.Tie as tie
+use Rattle.words.proofs.stream.find.Statement.{statement}
+use Rattle.words.proofs.stream.find.Tie as tie
 
 abbrev Inv-loop : tie.InvT-loop
 Inv-loop bytes from byte i₀ i = firstOf byte bytes from ≡ firstOf byte bytes i

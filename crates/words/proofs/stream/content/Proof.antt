@@ -1,4 +1,4 @@
--- `words::lines::content` meets its contract: the line is empty, or ends in a CR, or does not.
+-- `words::stream::content` meets its contract: the line is empty, or ends in a CR, or does not.
 use Prim.Native.Nat.{ℕ, _-_}
 use native.Mathlib.Omega.{arith}
 use borrow.Author.Tests.{eq-eqb, ne-eqb}
@@ -10,8 +10,8 @@ use lib.ListN.{length, take, getD}
 use lib.Seq.{length-take-le}
 use Rattle.words.specs.Lines.{withoutReturn}
 use borrow.Author.Needs.{needs}
-use Rattle.words.proofs.lines.content.Statement.{statement}
-use Rattle.words.proofs.lines.content.Tie as tie
+use Rattle.words.proofs.stream.content.Statement.{statement}
+use Rattle.words.proofs.stream.content.Tie as tie
 
 nothing : (line : List ℕ) → length line ≡ 0 → [] ≡ withoutReturn line
 nothing [] e = refl
