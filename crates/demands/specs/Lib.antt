@@ -20,6 +20,7 @@ pub mod Wrong1
 pub mod Wrong16
 pub mod Wrong2
 pub mod Wrong3
+pub mod WrongCommands
 pub mod WrongDrives
 pub mod WrongLists
 pub mod WrongNumbers
