@@ -21,6 +21,7 @@ pub mod Wrong16
 pub mod Wrong2
 pub mod Wrong3
 pub mod WrongAnswers
+pub mod WrongCommands
 pub mod WrongDrives
 pub mod WrongLists
 pub mod WrongNumbers

@@ -50,6 +50,7 @@ use Rattle.lines.proofs.take.Reads as lines·take
 use Rattle.lists.proofs.reading.Reads as lists·reading
 use Rattle.lists.proofs.set.Reads as lists·set
 use Rattle.lists.proofs.append_row.Reads as lists·append_row
+use Rattle.commands.proofs.parse.Reads as commands·parse
 use Rattle.rules.proofs.count_within.Reads as rules·count_within
 use Rattle.rules.proofs.width_within.Reads as rules·width_within
 use Rattle.rules.proofs.rise_within.Reads as rules·rise_within
@@ -222,6 +223,11 @@ lists·set-tied = (λ κs a. tt, λ κs a r s x y p q. λ i. (one-set p q i, one
 
 pub lists·append_row-tied : Tied lists·append_row.Pre lists·append_row.Post with-first
 lists·append_row-tied = (λ κs a. tt, λ κs a r s x y p q. λ i. (one-count p q i, one-buffer p q i))
+
+-- ---- commands
+
+pub commands·parse-tied : Tied commands·parse.Pre commands·parse.Post result
+commands·parse-tied = (λ κs a. tt, λ κs a r s x y p q. p ∙ sym q)
 
 -- ---- rules
 
