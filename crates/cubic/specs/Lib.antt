@@ -3,6 +3,7 @@ pub mod Slope
 pub mod Slopes
 pub mod Never
 pub mod Test
+pub mod OneTest
 pub mod Monotone
 pub mod Rise
 pub mod Horner

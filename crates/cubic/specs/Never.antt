@@ -11,7 +11,7 @@ use Rattle.integers.specs.Linear.{lin, says}
 use Rattle.integers.specs.Order.{0≤-as, 0≤-number, 0≤-square, 0≤-gap, 0<-gap, 0≤-cancel, 0<-product, 0<→1≤, ≤ℤ-or-<ℤ, pos-≤, ≤-pos}
 use Rattle.integers.specs.Within.{Within, within, within-high}
 use Rattle.cubic.specs.Piece.{slopeAt, NeverAgainst}
-use Rattle.cubic.specs.Slope.{at-start, at-end, at-turn, ellipse, steep, turn, fourfold, mirrored}
+use Rattle.cubic.specs.Slope.{at-start, at-end, at-half, at-turn, ellipse, steep, turn, fourfold, mirrored}
 
 -- at a fraction of two integers
 pub at-fraction : {Z a b : ℤ} → NeverAgainst Z a b → (k q : ℤ) → pos 0 ≤ℤ k → k ≤ℤ q → pos 1 ≤ℤ q → pos 0 ≤ℤ slopeAt Z a b k q
@@ -26,6 +26,23 @@ start-not-against {Z} {a} {b} f = 0≤-as (sym (at-start Z a b)) (f .at 0 1 (lit
 
 pub end-not-against : {Z a b : ℤ} → NeverAgainst Z a b → pos 0 ≤ℤ b
 end-not-against {Z} {a} {b} f = 0≤-as (sym (at-end Z a b)) (f .at 1 1 (lit≤ tt) (lit≤ tt))
+
+-- ---- half way: the ends together are at most 6Z, so that Z is not below 0, and without a rise they are 0
+
+half-way : {Z a b : ℤ} → NeverAgainst Z a b → pos 0 ≤ℤ (pos 6 *ℤ Z -ℤ a -ℤ b)
+half-way {Z} {a} {b} f = 0≤-as (sym (at-half Z a b)) (f .at 1 2 (lit≤ tt) (lit≤ tt))
+
+rise-not-against : {Z a b : ℤ} → NeverAgainst Z a b → pos 0 ≤ℤ Z
+rise-not-against {Z} {a} {b} f = up Z a b (start-not-against f) (end-not-against f) (half-way f)
+  where
+    up : (Z a b : ℤ) → pos 0 ≤ℤ a → pos 0 ≤ℤ b → pos 0 ≤ℤ (pos 6 *ℤ Z -ℤ a -ℤ b) → pos 0 ≤ℤ Z
+    up Z a b = lin (Z ∷ a ∷ b ∷ []) (search says depth 30 fits 9000) (omega arith)
+
+pub level-throughout : {a b : ℤ} → NeverAgainst (pos 0) a b → (a ≡ pos 0) × (b ≡ pos 0)
+level-throughout {a} {b} f = none a b (start-not-against f) (end-not-against f) (half-way f)
+  where
+    none : (a b : ℤ) → pos 0 ≤ℤ a → pos 0 ≤ℤ b → pos 0 ≤ℤ (pos 6 *ℤ pos 0 -ℤ a -ℤ b) → (a ≡ pos 0) × (b ≡ pos 0)
+    none a b = lin (a ∷ b ∷ []) (search says depth 30 fits 9000) (omega arith)
 
 -- ---- where the least slope lies inside the piece, the ellipse holds a and b
 
@@ -59,27 +76,30 @@ mirror {Z} {a} {b} f =
 
 -- ---- nothing above 4Z
 
-outside : (Z a b : ℤ) → pos 0 <ℤ Z → (pos 4 *ℤ Z) <ℤ a → ellipse Z a b ≤ℤ pos 0 → ⊥
+outside : (Z a b : ℤ) → pos 0 ≤ℤ Z → (pos 4 *ℤ Z) <ℤ a → ellipse Z a b ≤ℤ pos 0 → ⊥
 outside Z a b z₀ h d =
     sum _ _ _ (fourfold Z a b) (0≤-square (pos 2 *ℤ b +ℤ a -ℤ pos 6 *ℤ Z))
     (0<-product (0<-product {x = pos 3} (ltZ-yes tt) (positive Z a z₀ h)) (0<-gap h)) d
   where
-    positive : (Z a : ℤ) → pos 0 <ℤ Z → (pos 4 *ℤ Z) <ℤ a → pos 0 <ℤ a
+    positive : (Z a : ℤ) → pos 0 ≤ℤ Z → (pos 4 *ℤ Z) <ℤ a → pos 0 <ℤ a
     positive Z a = lin (Z ∷ a ∷ []) (search says depth 30 fits 9000) (omega arith)
 
     sum : (d s t : ℤ) → pos 4 *ℤ d ≡ s +ℤ t → pos 0 ≤ℤ s → pos 0 <ℤ t → d ≤ℤ pos 0 → ⊥
     sum d s t = lin (d ∷ s ∷ t ∷ []) (search says depth 30 fits 9000) (omega arith)
 
-pub start-below-four : {Z a b : ℤ} → pos 0 <ℤ Z → NeverAgainst Z a b → a ≤ℤ (pos 4 *ℤ Z)
-start-below-four {Z} {a} {b} z₀ f =
+pub start-below-four : {Z a b : ℤ} → NeverAgainst Z a b → a ≤ℤ (pos 4 *ℤ Z)
+start-below-four {Z} {a} {b} f =
     ⊎-elim (λ h. h) (λ h. absurd (outside Z a b z₀ h (inside-ellipse f (over-line Z a b z₀ (end-not-against f) h))))
     (≤ℤ-or-<ℤ a (pos 4 *ℤ Z))
   where
-    over-line : (Z a b : ℤ) → pos 0 <ℤ Z → pos 0 ≤ℤ b → (pos 4 *ℤ Z) <ℤ a → (pos 3 *ℤ Z) <ℤ (a +ℤ b)
+    z₀ : pos 0 ≤ℤ Z
+    z₀ = rise-not-against f
+
+    over-line : (Z a b : ℤ) → pos 0 ≤ℤ Z → pos 0 ≤ℤ b → (pos 4 *ℤ Z) <ℤ a → (pos 3 *ℤ Z) <ℤ (a +ℤ b)
     over-line Z a b = lin (Z ∷ a ∷ b ∷ []) (search says depth 30 fits 9000) (omega arith)
 
-pub end-below-four : {Z a b : ℤ} → pos 0 <ℤ Z → NeverAgainst Z a b → b ≤ℤ (pos 4 *ℤ Z)
-end-below-four z₀ f = start-below-four z₀ (mirror f)
+pub end-below-four : {Z a b : ℤ} → NeverAgainst Z a b → b ≤ℤ (pos 4 *ℤ Z)
+end-below-four f = start-below-four (mirror f)
 
 -- ---- so the cubic's coefficients are small, for a rise within M
 
@@ -89,12 +109,12 @@ pub record SmallCoefficients (M : ℕ) (Z a b : ℤ) : Type 0 where
   pub start : Within (4 * M) a
   pub end : Within (4 * M) b
 
-pub small-coefficients : {M : ℕ} {Z a b : ℤ} → pos 0 <ℤ Z → NeverAgainst Z a b → Within M Z → SmallCoefficients M Z a b
-small-coefficients {M} {Z} {a} {b} z₀ f zM =
+pub small-coefficients : {M : ℕ} {Z a b : ℤ} → NeverAgainst Z a b → Within M Z → SmallCoefficients M Z a b
+small-coefficients {M} {Z} {a} {b} f zM =
     let a₀ = start-not-against f in
     let b₀ = end-not-against f in
-    let a₄ = start-below-four z₀ f in
-    let b₄ = end-below-four z₀ f in
+    let a₄ = start-below-four f in
+    let b₄ = end-below-four f in
     let p = thirds Z a b M (within-high zM) a₀ b₀ a₄ b₄ in
     let q = seconds Z a b M (within-high zM) a₀ b₀ a₄ b₄ in
     let r = ends Z a M (within-high zM) a₀ a₄ in

@@ -14,6 +14,10 @@ at-start Z a b = ring (Z ∷ a ∷ b ∷ []) (search quote depth 30 fits 9000) t
 pub at-end : (Z a b : ℤ) → slopeAt Z a b (pos 1) (pos 1) ≡ b
 at-end Z a b = ring (Z ∷ a ∷ b ∷ []) (search quote depth 30 fits 9000) tt
 
+-- half way, four times it is 6Z − a − b
+pub at-half : (Z a b : ℤ) → slopeAt Z a b (pos 1) (pos 2) ≡ pos 6 *ℤ Z -ℤ a -ℤ b
+at-half Z a b = ring (Z ∷ a ∷ b ∷ []) (search quote depth 30 fits 9000) tt
+
 -- the slope in Bernstein's form
 pub bernstein : (Z a b k q : ℤ) → slopeAt Z a b k q ≡ a *ℤ ((q -ℤ k) *ℤ (q -ℤ k)) +ℤ pos 2 *ℤ (pos 3 *ℤ Z -ℤ (a +ℤ b)) *ℤ (k *ℤ (q -ℤ k)) +ℤ b *ℤ (k *ℤ k)
 bernstein Z a b k q = ring (Z ∷ a ∷ b ∷ k ∷ q ∷ []) (search quote depth 30 fits 9000) tt

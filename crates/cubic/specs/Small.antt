@@ -3,9 +3,7 @@ use mathlib.Core.Path.{_≡_, refl, sym, subst}
 use mathlib.Core.List.{[], _∷_}
 use Prim.Native.Nat.{ℕ, _*_, zero-le}
 use lib.IntN.{ℤ, pos, negℤ, _+ℤ_, _-ℤ_, _*ℤ_}
-use lib.Signed.{_<ℤ_}
 use Rattle.integers.specs.Ring.{ring, quote}
-use Rattle.integers.specs.Order.{0<-product, 0<-minus-product}
 use Rattle.integers.specs.Signs.{by-sign}
 use Rattle.integers.specs.Within.{Within, within-minus, minus-within}
 use Rattle.integers.specs.Arguments.{same₄}
@@ -29,10 +27,9 @@ over {M} {Z} {a} {b} s =
     seconds : (Z a b : ℤ) → pos 3 *ℤ negℤ Z -ℤ pos 2 *ℤ negℤ a -ℤ negℤ b ≡ negℤ (pos 3 *ℤ Z -ℤ pos 2 *ℤ a -ℤ b)
     seconds Z a b = ring (Z ∷ a ∷ b ∷ []) (search quote depth 30 fits 9000) tt
 
-pub monotone-small : {M : ℕ} {U h z m n : ℤ} → pos 0 <ℤ U → Monotone U h z m n → Within M (U *ℤ z) → SmallCoefficients M (U *ℤ z) (m *ℤ h) (n *ℤ h)
-monotone-small {M} {U} {h} {z} {m} {n} U₀ o w =
-    by-sign z (λ p. small-coefficients (0<-product U₀ p) (o .rising p) w)
-    (λ p. over (small-coefficients (0<-minus-product U₀ p) (o .falling p) (within-minus (U *ℤ z) w)))
+pub monotone-small : {M : ℕ} {U h z m n : ℤ} → Monotone U h z m n → Within M (U *ℤ z) → SmallCoefficients M (U *ℤ z) (m *ℤ h) (n *ℤ h)
+monotone-small {M} {U} {h} {z} {m} {n} o w =
+    by-sign z (λ p. small-coefficients (o .rising p) w) (λ p. over (small-coefficients (o .falling p) (within-minus (U *ℤ z) w)))
     (λ e. let l = level-numbers o e in same₄ (λ (Z a b _ : ℤ). SmallCoefficients M Z a b) {u = pos 0} {u' = pos 0} (sym (l .0)) (sym (l .1 .0)) (sym (l .1 .1)) refl none)
   where
     none : SmallCoefficients M (pos 0) (pos 0) (pos 0)

@@ -11,6 +11,7 @@ ghost use Rattle.curve.specs.Curve.{Evaluated};
 
 mod rise;
 
+use position::Sought;
 use position::Spot;
 use rules::Refusal;
 
@@ -36,12 +37,21 @@ fn value_on(s: Spot) -> i32
 pub fn evaluate(knots: &[i32], values: &[i32], slopes: &[i32], position: i32) -> Value
     ensures { λ r. ⌜ Evaluated (table (now (knots .entry)) (now (values .entry)) (now (slopes .entry))) position (r .refusal .number) (r .refusal .place) (r .value) ⌝ }
 {
-    let place = position::locate(knots, values, slopes, position);
-    let refusal = place.refusal;
+    let refusal = table::check(knots, values, slopes);
     if refusal.number != rules::DONE {
         return Value { refusal, value: 0 };
     }
-    let spot = position::spot_on(knots, values, slopes, place.piece, position);
-    let value = value_on(spot);
-    Value { refusal, value }
+    match position::seek(knots, values, slopes, position) {
+        Sought::Outside => Value {
+            refusal: Refusal {
+                number: rules::POSITION,
+                place: 0,
+            },
+            value: 0,
+        },
+        Sought::On(spot) => {
+            let value = value_on(spot);
+            Value { refusal, value }
+        }
+    }
 }

@@ -13,7 +13,7 @@ use Rattle.rules.specs.declared.Refusal.{Refusal}
 use Rattle.piece.specs.declared.Verdict.{Verdict}
 use Rattle.table.specs.declared.changed.Change.{Change}
 use Rattle.table.specs.Table.{Table}
-use Rattle.position.specs.declared.Spot.{Spot}
+use Rattle.position.specs.declared.Sought.{Sought}
 use Rattle.drive.specs.declared.Answer.{Answer}
 use Rattle.piece.proofs.judge.Reads as piece·judge
 use Rattle.piece.proofs.is_monotone.Reads as piece·is_monotone
@@ -25,7 +25,7 @@ use Rattle.table.proofs.step.Reads as table·step
 use Rattle.slopes.proofs.build.Reads as slopes·build
 use Rattle.slopes.proofs.renew.Reads as slopes·renew
 use Rattle.position.proofs.locate.Reads as position·locate
-use Rattle.position.proofs.spot_on.Reads as position·spot_on
+use Rattle.position.proofs.seek.Reads as position·seek
 use Rattle.curve.proofs.evaluate.Reads as curve·evaluate
 use Rattle.drive.proofs.float_answer.Reads as drive·float_answer
 use Rattle.change.proofs.point.Reads as change·point
@@ -139,12 +139,11 @@ module _ (t : Table) (x : ℤ) where
   abbrev pub LocatesC : (number place piece : ℕ) → Type 0
   LocatesC number place piece = negwafir_locate.Post three (lists t (x, tt)) (record { refusal = refusal number place; piece = piece }) (lists t (x, tt))
 
-  module _ (i : ℕ) where
-    abbrev pub AskedSpot : Type 0
-    AskedSpot = position·spot_on.Pre three (lists t (i, (x, tt)))
+  abbrev pub AskedSeek : Type 0
+  AskedSeek = position·seek.Pre three (lists t (x, tt))
 
-    abbrev pub Spots : Spot → Type 0
-    Spots spot = position·spot_on.Post three (lists t (i, (x, tt))) spot (lists t (i, (x, tt)))
+  abbrev pub Seeks : Sought → Type 0
+  Seeks sought = position·seek.Post three (lists t (x, tt)) sought (lists t (x, tt))
 
   abbrev pub Evaluates : (number place : ℕ) (value : ℤ) → Type 0
   Evaluates number place value = curve·evaluate.Post three (lists t (x, tt)) (record { refusal = refusal number place; value = value }) (lists t (x, tt))

@@ -19,9 +19,11 @@ use Rattle.decimals.specs.declared.reading.Number as Number
 use Rattle.decimals.specs.declared.reading.Number32 as Number32
 use Rattle.lists.specs.Lists.{readingFrom, numbersOf, spaced}
 use Rattle.lists.specs.declared.outcome.Reading.the-variants.{Numbers}
-use Rattle.demands.specs.Contracts.{list, SaysMonotone, HasCoefficients, Steps, Renews, Spots}
+use Rattle.position.specs.declared.Sought.the-variants.{On}
+use Rattle.position.specs.Spot.{on}
+use Rattle.demands.specs.Contracts.{list, SaysMonotone, HasCoefficients, Steps, Renews, Seeks}
 use Rattle.demands.specs.Programs.{two, four}
-use Rattle.demands.specs.Refuting.{within}
+use Rattle.demands.specs.Refuting.{within, in-piece}
 use Rattle.demands.specs.SixteenGiven.{count}
 use Rattle.integers.proofs.difference.Reads as integers·difference
 use Rattle.integers.proofs.between.Reads as integers·between
@@ -93,7 +95,7 @@ pub record WorkedBelow : Type 0 where
   pub coefficients : HasCoefficients (pos 1) (pos 1) (pos 256) (pos 256) (pos 256) (pos 0) (pos 0)
   pub step : Steps (four .values) 1 (pos 3)
   pub renew : Renews four 0 2 (four .slopes)
-  pub spot-on : Spots two (pos 1) 0 (record { left = pos 0; h = pos 3; z = negsuc 9; m = negsuc 852; n = negsuc 852; t = pos 1 })
+  pub seek : Seeks two (pos 1) (On (record { piece = 0; left = pos 0; h = pos 3; z = negsuc 9; m = negsuc 852; n = negsuc 852; t = pos 1 }))
 
 pub worked-below : WorkedBelow
 unfolding front wordsAfter areDigits natural spelled readingFrom numbersOf spaced
@@ -124,5 +126,5 @@ worked-below =
       coefficients = record { first-is = refl; second-is = refl; third-is = refl };
       step = refl;
       renew = refl;
-      spot-on = record { left-is = refl; h-is = refl; z-is = refl; m-is = refl; n-is = refl; t-is = refl; right-fits = record { sfits = lit< tt } };
+      seek = on (within tt tt) (record { belongs = in-piece 0 tt tt tt; left-is = refl; h-is = refl; z-is = refl; m-is = refl; n-is = refl; t-is = refl; right-fits = record { sfits = lit< tt } });
     }

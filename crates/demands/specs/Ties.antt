@@ -1,7 +1,7 @@
 -- "Every public answer is determined for every input, refusals too, together with each lent list after the call. Show that no two different results can satisfy a
 -- promise": of every public function, by its own contract. `Tied` says that it asks nothing of its caller, and that two results which meet what it ensures are the same. A
 -- result is what is returned and, where a list is lent to be changed, what it holds when the call returns. The functions with a `requires` are `TiedWhere` it is met.
-use mathlib.Core.Path.{_≡_, sym, _∙_}
+use mathlib.Core.Path.{_≡_, refl, sym, _∙_, ap, subst}
 use mathlib.Core.List.{List}
 use Prim.Native.Nat.{ℕ}
 use lib.IntN.{ℤ}
@@ -18,9 +18,13 @@ use Rattle.piece.specs.Cubic.{Coefficients}
 use Rattle.piece.specs.Determined.{one-verdict}
 use Rattle.cubic.specs.Piece.{unit}
 use Rattle.table.specs.Table.{Table, table}
+use Rattle.table.specs.Accepted.{Accepted}
 use Rattle.slopes.specs.Determined.{one-build}
 use Rattle.position.specs.declared.Spot.{Spot}
-use Rattle.position.specs.Spot.{SpotOn}
+use Rattle.position.specs.declared.Sought.{Sought}
+use Rattle.position.specs.declared.Sought.the-variants.{On}
+use Rattle.position.specs.Pieces.{one-piece}
+use Rattle.position.specs.Spot.{SpotOn, SoughtIn, outside, on}
 use Rattle.position.specs.Determined.{one-place}
 use Rattle.curve.specs.Determined.{one-evaluation}
 use Rattle.drive.specs.declared.Driven.{Driven}
@@ -64,7 +68,7 @@ use Rattle.table.proofs.step.Reads as table·step
 use Rattle.slopes.proofs.build.Reads as slopes·build
 use Rattle.slopes.proofs.renew.Reads as slopes·renew
 use Rattle.position.proofs.locate.Reads as position·locate
-use Rattle.position.proofs.spot_on.Reads as position·spot_on
+use Rattle.position.proofs.seek.Reads as position·seek
 use Rattle.curve.proofs.evaluate.Reads as curve·evaluate
 use Rattle.drive.proofs.float_answer.Reads as drive·float_answer
 use Rattle.change.proofs.point.Reads as change·point
@@ -132,15 +136,22 @@ one-cubic p q =
     let third = p .third-is ∙ sym (q .third-is) in
     λ i. record { first = first i; second = second i; third = third i }
 
-one-spot : {t : Table} {j : ℕ} {x : ℤ} {r s : Spot} → SpotOn t j x (r .left) (r .h) (r .z) (r .m) (r .n) (r .t) → SpotOn t j x (s .left) (s .h) (s .z) (s .m) (s .n) (s .t) → r ≡ s
-one-spot p q =
+one-spot : {tab : Table} {x : ℤ} {r s : Spot} → r .piece ≡ s .piece → SpotOn tab (r .piece) x (r .left) (r .h) (r .z) (r .m) (r .n) (r .t) → SpotOn tab (s .piece) x (s .left) (s .h) (s .z) (s .m) (s .n) (s .t) → r ≡ s
+one-spot {tab} {x} {r} {s} piece f q =
+    let p = subst (λ (i : ℕ). SpotOn tab i x (r .left) (r .h) (r .z) (r .m) (r .n) (r .t)) piece f in
     let left = p .left-is ∙ sym (q .left-is) in
     let h = p .h-is ∙ sym (q .h-is) in
     let z = p .z-is ∙ sym (q .z-is) in
     let m = p .m-is ∙ sym (q .m-is) in
     let n = p .n-is ∙ sym (q .n-is) in
     let t = p .t-is ∙ sym (q .t-is) in
-    λ i. record { left = left i; h = h i; z = z i; m = m i; n = n i; t = t i }
+    λ i. record { piece = piece i; left = left i; h = h i; z = z i; m = m i; n = n i; t = t i }
+
+one-sought : {t : Table} {x : ℤ} {r s : Sought} → Accepted t → SoughtIn t x r → SoughtIn t x s → r ≡ s
+one-sought a (outside f) (outside g) = refl
+one-sought a (outside f) (on w p) = absurd (f w)
+one-sought a (on w p) (outside f) = absurd (f w)
+one-sought a (on w p) (on v q) = ap On (one-spot (one-piece (a .limits) (p .belongs) (q .belongs)) p q)
 
 one-driven : {t : Table} {x : ℤ} (r s : Driven) → Driving t x (r .refusal .number) (r .refusal .place) (toldOf (r .answer)) → Driving t x (s .refusal .number) (s .refusal .place) (toldOf (s .answer)) → r ≡ s
 one-driven r s p q =
@@ -278,8 +289,8 @@ slopes·renew-tied = λ κs a r s x y o p q. λ i. (tt, (p ∙ sym q) i)
 pub position·locate-tied : Tied position·locate.Pre position·locate.Post result
 position·locate-tied = (λ κs a. tt, λ κs a r s x y p q. let e = one-place p q in λ i. record { refusal = record { number = e .0 i; place = e .1 i }; piece = e .2 i })
 
-pub position·spot_on-tied : TiedWhere position·spot_on.Pre position·spot_on.Post result
-position·spot_on-tied = λ κs a r s x y o p q. one-spot p q
+pub position·seek-tied : TiedWhere position·seek.Pre position·seek.Post result
+position·seek-tied = λ κs a r s x y o p q. one-sought o p q
 
 -- ---- curve
 

@@ -17,13 +17,15 @@ use Rattle.table.specs.Tested.{points-by-test}
 use Rattle.table.specs.WouldBe.{of-points, no-such-point}
 use Rattle.slopes.specs.Slopes.{builtSlopes}
 use Rattle.slopes.specs.EveryPiece.{a-built-table-passes-the-table-check}
-use Rattle.position.specs.declared.Spot.{Spot}
+use Rattle.position.specs.declared.Sought.{Sought}
+use Rattle.position.specs.declared.Sought.the-variants.{Outside, On}
 use Rattle.position.specs.Position.{Belongs, at-last-knot, Located}
 use Rattle.position.specs.Pieces.{one-piece}
+use Rattle.position.specs.Spot.{sought-outside, sought-on}
 use Rattle.position.specs.Refused.{accepted-at}
 use Rattle.curve.specs.Curve.{valueOn, Evaluated}
 use Rattle.demands.specs.SixteenGiven.{count, has-slopes}
-use Rattle.demands.specs.Contracts.{PointsAnswer, PointsAnswerC, Checks, ChecksC, Builds, BuildsC, AskedRenewal, Renews, ChangedPoints, ChangedPointsC, Changes, ChangesC, AskedStep, Steps, Locates, LocatesC, AskedSpot, Spots, Evaluates, EvaluatesC}
+use Rattle.demands.specs.Contracts.{PointsAnswer, PointsAnswerC, Checks, ChecksC, Builds, BuildsC, AskedRenewal, Renews, ChangedPoints, ChangedPointsC, Changes, ChangesC, AskedStep, Steps, Locates, LocatesC, AskedSeek, Seeks, Evaluates, EvaluatesC}
 use Rattle.demands.specs.Refuting.{within, overlooked, so-it-holds, too-narrow, too-high, against-its-rise, below-the-line, in-piece, no-bad-width, no-bad-rise, no-bend, no-bad-width-then, the-point-is-there, no-bend-there, not-outside, answers-nothing, numbers-differ, lists-differ}
 
 abbrev 0-1 : List ℤ
@@ -260,21 +262,31 @@ every-position-refused p = not-outside (within tt tt) (so-it-holds (p .refusal))
 pub located-among-the-values : LocatesC (table 0-2 (pos 5 ∷ pos 9 ∷ []) 0-0) (pos 1) 6 0 0 → ⊥
 located-among-the-values p = not-outside (within tt tt) (so-it-holds (p .refusal))
 
--- ---- `spot_on`: the numbers of a position in its piece
+-- ---- `seek`: the numbers of a position in its piece
 
-abbrev pub SpotsNot : (t : Table) (x : ℤ) (i : ℕ) → Spot → Type 0
-SpotsNot t x i s = AskedSpot t x i × (Spots t x i s → ⊥)
+abbrev pub SeeksNot : (t : Table) (x : ℤ) → Sought → Type 0
+SeeksNot t x s = AskedSeek t x × (Seeks t x s → ⊥)
 
 -- a table is accepted that has the slopes of a build
 built : {ks vs ss : List ℤ} → Limits.PointsWithin ks vs → ss ≡ builtSlopes ks vs → length ss ≡ length ks → Accepted (table ks vs ss)
 built {ss = ss} p e l = accepted-table refl (a-built-table-passes-the-table-check (has-slopes {before = ss} p e l))
 
 -- 2 counts into the piece, from its left value 0, and not 1, from its left knot 1
-pub a-place-counted-from-the-left-value : SpotsNot (table (pos 1 ∷ pos 4 ∷ []) (pos 0 ∷ negsuc 9 ∷ []) (negsuc 852 ∷ negsuc 852 ∷ [])) (pos 2) 0 (record { left = pos 0; h = pos 3; z = negsuc 9; m = negsuc 852; n = negsuc 852; t = pos 2 })
-a-place-counted-from-the-left-value = ((built (points-by-test _ _ refl (count tt tt) tt) refl refl, in-piece 0 tt tt tt), λ s. numbers-differ tt (s .t-is))
+pub a-place-counted-from-the-left-value : SeeksNot (table (pos 1 ∷ pos 4 ∷ []) (pos 0 ∷ negsuc 9 ∷ []) (negsuc 852 ∷ negsuc 852 ∷ [])) (pos 2) (On (record { piece = 0; left = pos 0; h = pos 3; z = negsuc 9; m = negsuc 852; n = negsuc 852; t = pos 2 }))
+a-place-counted-from-the-left-value = (built (points-by-test _ _ refl (count tt tt) tt) refl refl, λ s. numbers-differ tt (sought-on s .1 .t-is))
 
-pub the-left-slope-twice : SpotsNot rise (pos 0) 0 (record { left = pos 0; h = pos 1; z = pos 1; m = pos 256; n = pos 256; t = pos 0 })
-the-left-slope-twice = ((built (points-by-test _ _ refl (count tt tt) tt) refl refl, in-piece 0 tt tt tt), λ s. numbers-differ tt (s .n-is))
+pub the-left-slope-twice : SeeksNot rise (pos 0) (On (record { piece = 0; left = pos 0; h = pos 1; z = pos 1; m = pos 256; n = pos 256; t = pos 0 }))
+the-left-slope-twice = (built (points-by-test _ _ refl (count tt tt) tt) refl refl, λ s. numbers-differ tt (sought-on s .1 .n-is))
+
+-- the last knot is in no piece, as one that ends there would have it
+pub the-last-knot-sought-outside : SeeksNot fall (pos 3) Outside
+the-last-knot-sought-outside = (built (points-by-test _ _ refl (count tt tt) tt) refl refl, λ s. sought-outside s (within tt tt))
+
+-- the place of a position in a piece that it does not belong to
+pub a-spot-in-the-piece-that-ends-there : SeeksNot rise (pos 1) (On (record { piece = 0; left = pos 0; h = pos 1; z = pos 1; m = pos 256; n = pos 384; t = pos 1 }))
+a-spot-in-the-piece-that-ends-there =
+    let a = built (points-by-test _ _ refl (count tt tt) tt) refl refl in
+    (a, λ s. omega (arith, one-piece (a .limits) (sought-on s .1 .belongs) (in-piece 1 tt tt tt)))
 
 -- ---- `evaluate`: the value at a position
 

@@ -1,18 +1,23 @@
 -- When a float answer is refused: the causes that evaluation has are asked as there.
 use mathlib.Core.Path.{_≡_, refl, subst}
 use mathlib.Core.List.{[], _∷_}
-use Prim.Native.Nat.{ℕ}
+use Prim.Native.Nat.{ℕ, _+_}
 use native.Mathlib.Omega.{arith}
-use lib.IntN.{ℤ}
+use lib.IntN.{ℤ, _-ℤ_}
 use Rattle.rules.specs.Limits.{TooLarge}
-use Rattle.rules.specs.Refusals.{Given, done, refused, passed}
-use Rattle.rules.specs.Order.{Same, one-more-cause, other-way, carried, front}
-use Rattle.table.specs.Table.{Table, step}
+use Rattle.rules.specs.Refusals.{Given, done, refused, passed, nothing, answered}
+use Rattle.rules.specs.Order.{Same, one-more-cause, other-way, carried, front, went-on}
+use Rattle.table.specs.Table.{Table, entry, step}
 use Rattle.table.specs.Accepted.{Accepted}
 use Rattle.position.specs.Position.{Belongs, HoldsAt, of-table, evaluationOrder}
 use Rattle.position.specs.Pieces.{one-piece}
 use Rattle.position.specs.Refused.{accepted-at}
-use Rattle.drive.specs.Drive.{HoldsFor, of-position, too-large, floatOrder}
+use Rattle.drive.specs.Drive.{Telling, resting, ToldIn, HoldsFor, of-position, too-large, floatOrder, Driving}
+
+-- what is answered in piece i: 8 where it is too large, and else what the drive is told
+pub data AnsweredOn (i : ℕ) (left h z m n t : ℤ) : (number place : ℕ) → Telling → Type 0 where
+  refused-there : TooLarge h z → AnsweredOn i left h z m n t 8 i resting
+  told-there : {a : Telling} → (TooLarge h z → ⊥) → ToldIn left h z m n t a → AnsweredOn i left h z m n t 0 0 a
 
 module _ {t : Table} {x : ℤ} where
   position-alone : (c p : ℕ) → (c ≡ 8 → ⊥) → HoldsFor t x c p → HoldsAt t x c p
@@ -44,3 +49,11 @@ module _ {t : Table} {x : ℤ} where
 
     pub taken-small : (TooLarge (step (t .knots) i) (step (t .values) i) → ⊥) → Given (HoldsFor t x) (8 ∷ []) 0 0
     taken-small f = passed (λ p h. f (at-its-piece p h .1)) done
+
+    -- what is answered in its piece is answered at the position, where nothing before it refuses
+    pub driving-on : {n p number place : ℕ} {a : Telling} → n ≡ 0 → Given (HoldsAt t x) evaluationOrder n p
+        → AnsweredOn i (entry (t .values) i) (step (t .knots) i) (step (t .values) i) (entry (t .slopes) i) (entry (t .slopes) (i + 1)) (x -ℤ entry (t .knots) i) number place a
+        → Driving t x number place a
+    driving-on e g (refused-there l) = record { refusal = went-on e (as-evaluated g) (refused-large l); answer = nothing }
+    driving-on e g (told-there f o) =
+        record { refusal = went-on e (as-evaluated g) (taken-small f); answer = answered (record { piece = i; belongs = b; is = o }) }

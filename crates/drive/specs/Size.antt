@@ -7,7 +7,7 @@ use native.Mathlib.Omega.{arith}
 use native.Mathlib.Nat.{le-refl, le-of-eq, le-trans, mul-le-mul}
 use lib.Dec.{lit≤}
 use lib.IntN.{ℤ, pos, negsuc, negℤ, natAbs, _*ℤ_}
-use lib.Signed.{_<ℤ_, ltZ-yes}
+use lib.Signed.{_<ℤ_}
 use Rattle.integers.specs.Promise.{Between, Decided, holds, fails, magnitude}
 use Rattle.integers.specs.Order.{≤-pos, ≤ℤ-or-<ℤ}
 use Rattle.integers.specs.Decided.{beyond}
@@ -46,7 +46,7 @@ pub steps-exact : {h z m n t first second third : ℤ} → InPiece h z m n t →
 steps-exact {h} {z} {m} {n} {t} o f c =
     let w = width-size h (o .width) in
     let size = cubed h z (o .width) f in
-    let small = monotone-small {M = 256 * natAbs z} {U = unit} (ltZ-yes tt) (o .monotone) (record { size = le-of-eq (natAbs-product unit z) }) in
+    let small = monotone-small {M = 256 * natAbs z} {U = unit} (o .monotone) (record { size = le-of-eq (natAbs-product unit z) }) in
     same₄ (λ (first second third _ : ℤ). HornerWithin (2 ^ 53) first second third t h) {u = t} (sym (c .first-is)) (sym (c .second-is)) (sym (c .third-is)) refl
     (horner-within {H = natAbs h} small (o .place .low) (o .place .high) (record { size = le-refl (natAbs h) }) (w .0) (le-trans (mul-le-mul (w .1) (w .1)) (lit≤ tt))
     (omega (arith, size)))

@@ -9,9 +9,11 @@ ghost use Rattle.rules.specs.Limits.{WidthWithin, RiseWithin, TooLarge};
 ghost use Rattle.table.specs.Table.{table};
 ghost use Rattle.position.specs.Spot.{InPiece};
 ghost use Rattle.drive.specs.Drive.{toldOf, resting, ToldIn, Driving};
+ghost use Rattle.drive.specs.Refused.{AnsweredOn};
 
 mod horner;
 
+use position::Sought;
 use position::Spot;
 use rules::Refusal;
 
@@ -86,23 +88,41 @@ fn refused(refusal: Refusal) -> Driven
     }
 }
 
+// What the drive is told in a piece, or its refusal where it is too large.
+fn answer_on(s: Spot) -> Driven
+    requires { ⌜ InPiece (s .h) (s .z) (s .m) (s .n) (s .t) ⌝ }
+    ensures { λ r. ⌜ AnsweredOn (s .piece) (s .left) (s .h) (s .z) (s .m) (s .n) (s .t) (r .refusal .number) (r .refusal .place) (toldOf (r .answer)) ⌝ }
+{
+    if too_large(s.h, s.z) {
+        return refused(Refusal {
+            number: rules::SIZE,
+            place: s.piece,
+        });
+    }
+    let answer = told(s);
+    Driven {
+        refusal: Refusal {
+            number: rules::DONE,
+            place: 0,
+        },
+        answer,
+    }
+}
+
 // What the drive is told at a position, or the refusal, in the order 1, 2, 3, 4, 5, 6, 8: the whole table is checked first, then the position, and then the
 // size of its piece.
 pub fn float_answer(knots: &[i32], values: &[i32], slopes: &[i32], position: i32) -> Driven
     ensures { λ r. ⌜ Driving (table (now (knots .entry)) (now (values .entry)) (now (slopes .entry))) position (r .refusal .number) (r .refusal .place) (toldOf (r .answer)) ⌝ }
 {
-    let place = position::locate(knots, values, slopes, position);
-    let refusal = place.refusal;
+    let refusal = table::check(knots, values, slopes);
     if refusal.number != rules::DONE {
         return refused(refusal);
     }
-    let spot = position::spot_on(knots, values, slopes, place.piece, position);
-    if too_large(spot.h, spot.z) {
-        return refused(Refusal {
-            number: rules::SIZE,
-            place: place.piece,
-        });
+    match position::seek(knots, values, slopes, position) {
+        Sought::Outside => refused(Refusal {
+            number: rules::POSITION,
+            place: 0,
+        }),
+        Sought::On(spot) => answer_on(spot),
     }
-    let answer = told(spot);
-    Driven { refusal, answer }
 }

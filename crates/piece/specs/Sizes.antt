@@ -1,11 +1,23 @@
 -- The sizes that the limits leave to a rise Z and to the slopes times the width, and those whose products fit 64 bits.
-use Prim.Native.Nat.{_^_}
-use lib.IntN.{ℤ, pos}
-use lib.Signed.{_<ℤ_}
-use Rattle.integers.specs.Within.{Within}
+use mathlib.Core.Path.{_≡_, sym, subst}
+use Prim.Native.Nat.{ℕ, _^_}
+use lib.IntN.{ℤ, pos, negsuc}
+use Rattle.integers.specs.Promise.{withSign}
+use Rattle.integers.specs.Within.{Within, within-minus}
+
+-- x with the other sign where s is negative, as a relation, which shows s and x to a caller's proof
+pub record WithSign (s x r : ℤ) : Type 0 where
+  pub is : r ≡ withSign s x
+
+-- it is as large as x
+pub as-large : {M : ℕ} {s x r : ℤ} → WithSign s x r → Within M x → Within M r
+as-large {M} {s} {x} w h = subst (Within M) (sym (w .is)) (either s)
+  where
+    either : (s : ℤ) → Within M (withSign s x)
+    either (pos n) = h
+    either (negsuc n) = within-minus x h
 
 pub record Moderate (Z a b : ℤ) : Type 0 where
-  pub up : pos 0 <ℤ Z
   pub rise : Within (2 ^ 28) Z
   pub start : Within (2 ^ 41) a
   pub end : Within (2 ^ 41) b

@@ -1,11 +1,12 @@
 // The verdict on one piece: rising, falling, flat or bends, or the refusal of a piece outside the limits. And the cubic of a piece.
 ghost use Rattle.integers.specs.Promise.{Decided};
+ghost use Rattle.integers.specs.Within.{Within};
 ghost use Rattle.cubic.specs.Piece.{unit, NeverAgainst, Monotone};
-ghost use Rattle.cubic.specs.Slope.{InEllipse};
+ghost use Rattle.cubic.specs.OneTest.{SquareWithin};
 ghost use Rattle.rules.specs.Limits.{WidthWithin, RiseWithin};
 ghost use Rattle.piece.specs.Promise.{Judged, rulingOf};
-ghost use Rattle.piece.specs.Sizes.{Moderate, Low};
-ghost use Rattle.piece.specs.Cubic.{Coefficients};
+ghost use Rattle.piece.specs.Sizes.{WithSign, Moderate, Low};
+ghost use Rattle.piece.specs.Cubic.{UnitsOf, Coefficients};
 use rules::Refusal;
 
 // What is answered of one piece.
@@ -24,61 +25,70 @@ pub struct Cubic {
     pub third: i64,
 }
 
-// Fritsch and Carlson's last test, from what a and b have over 3Z. The callers' sizes leave room for both products.
-fn in_ellipse(over: i64, a: i64, b: i64) -> bool
-    requires { ⌜ Low over a b ⌝ }
-    ensures { λ r. ⌜ Decided (InEllipse over a b) r ⌝ }
-{
-    over * over <= a * b
+// Z, a and b of the exact rules.
+struct Units {
+    rise: i64,
+    a: i64,
+    b: i64,
 }
 
-// Whether the cubic of a rise never slopes against it, by Fritsch and Carlson's test in its short form: a, b ≥ 0, and not above the line
-// a + b = 3Z, or in the ellipse (a + b − 3Z)² ≤ a·b. Nothing above 4Z is in the ellipse, so that both products fit.
+// Z = 256·z, a = m·h and b = n·h, of a piece within the limits, or turned.
+fn in_units(h: i64, z: i64, m: i32, n: i32) -> Units
+    requires { ⌜ Within 1024 h ⌝ }
+    requires { ⌜ Within 1048576 z ⌝ }
+    ensures { λ r. ⌜ UnitsOf unit h z m n (r .rise) (r .a) (r .b) ⌝ }
+    ensures { λ r. ⌜ Moderate (r .rise) (r .a) (r .b) ⌝ }
+{
+    let rise = rules::UNIT * z;
+    let a = (m as i64) * h;
+    let b = (n as i64) * h;
+    Units { rise, a, b }
+}
+
+// x, with the other sign where s is negative.
+fn turned(s: i64, x: i64) -> i64
+    requires { ⌜ Within 3000000000 x ⌝ }
+    ensures { λ r. ⌜ WithSign s x r ⌝ }
+{
+    if s < 0 {
+        return -x;
+    }
+    x
+}
+
+// Fritsch and Carlson's last test, from what a and b have over 3Z, squared with its sign: where that is below 0 the test holds. The callers' sizes leave
+// room for both products.
+fn in_ellipse(over: i64, a: i64, b: i64) -> bool
+    requires { ⌜ Low over a b ⌝ }
+    ensures { λ r. ⌜ Decided (SquareWithin over a b) r ⌝ }
+{
+    over * turned(over, over) <= a * b
+}
+
+// Whether a cubic of the rise Z never slopes against it, by Fritsch and Carlson's test in its short form: a and b from 0 on, and not above the line
+// a + b = 3Z, or in the ellipse (a + b − 3Z)² ≤ a·b. Nothing above 4Z is in the ellipse, so that both products fit. Where Z is 0, so are a and b. Nothing is
+// told apart here that one accepted piece has and another has not: the test takes the same time for both.
 fn never_against(rise: i64, a: i64, b: i64) -> bool
     requires { ⌜ Moderate rise a b ⌝ }
     ensures { λ r. ⌜ Decided (NeverAgainst rise a b) r ⌝ }
 {
-    if a < 0 {
+    if !integers::between(0, a, 4 * rise) {
         return false;
     }
-    if b < 0 {
+    if !integers::between(0, b, 4 * rise) {
         return false;
     }
-    let over = a + b - 3 * rise;
-    if over <= 0 {
-        return true;
-    }
-    if 4 * rise < a {
-        return false;
-    }
-    if 4 * rise < b {
-        return false;
-    }
-    in_ellipse(over, a, b)
+    in_ellipse(a + b - 3 * rise, a, b)
 }
 
-// Whether a piece within the limits is monotone: the test for its rise's sign, or level throughout where it has none.
+// Whether a piece within the limits is monotone: the one test, of the piece turned so that it does not fall.
 pub fn is_monotone(h: i64, z: i64, m: i32, n: i32) -> bool
     requires { ⌜ WidthWithin h ⌝ }
     requires { ⌜ RiseWithin z ⌝ }
     ensures { λ r. ⌜ Decided (Monotone unit h z m n) r ⌝ }
 {
-    let rise = rules::UNIT * z;
-    let a = (m as i64) * h;
-    let b = (n as i64) * h;
-    if 0 < z {
-        return never_against(rise, a, b);
-    }
-    if z < 0 {
-        return never_against(-rise, -a, -b);
-    }
-    if a != 0 {
-        return false;
-    }
-    if b != 0 {
-        return false;
-    }
-    true
+    let u = in_units(turned(z, h), turned(z, z), m, n);
+    never_against(u.rise, u.a, u.b)
 }
 
 // The verdict on the piece of width h and rise z with the slopes m and n at its ends, or its refusal: by 3 where the width, else by 4 where
@@ -116,11 +126,12 @@ pub fn coefficients(h: i64, z: i64, m: i32, n: i32) -> Cubic
     requires { ⌜ RiseWithin z ⌝ }
     ensures { λ r. ⌜ Coefficients unit h z m n (r .first) (r .second) (r .third) ⌝ }
 {
-    let units = rules::UNIT * z;
-    let a = (m as i64) * h;
-    let b = (n as i64) * h;
-    let second = 3 * units - 2 * a - b;
-    let third = a + b - 2 * units;
+    let u = in_units(h, z, m, n);
+    let rise = u.rise;
+    let a = u.a;
+    let b = u.b;
+    let second = 3 * rise - 2 * a - b;
+    let third = a + b - 2 * rise;
     Cubic {
         first: a,
         second,

@@ -17,18 +17,18 @@ pub record Held (left h z m n t : ℤ) : Type 0 where
   pub n-fits : SFits w32 n
   pub t-fits : SFits w64 t
 
--- as a struct's own facts say it: of each field, in order, what it is and that it fits
-pub held-fields : {A B C D E F X : Type 0} {left h z m n t : ℤ}
-    → (A × (mag left < 2 ^ 31)) × ((B × (mag h < 2 ^ 63)) × ((C × (mag z < 2 ^ 63)) × ((D × (mag m < 2 ^ 31)) × ((E × (mag n < 2 ^ 31)) × ((F × (mag t < 2 ^ 63)) × X)))))
+-- as a struct's own facts say it: of each field, in order, what it is and that it fits; the piece's number comes first
+pub held-fields : {P A B C D E F X : Type 0} {left h z m n t : ℤ}
+    → P × ((A × (mag left < 2 ^ 31)) × ((B × (mag h < 2 ^ 63)) × ((C × (mag z < 2 ^ 63)) × ((D × (mag m < 2 ^ 31)) × ((E × (mag n < 2 ^ 31)) × ((F × (mag t < 2 ^ 63)) × X))))))
     → Held left h z m n t
 held-fields g =
     record {
-      left-fits = record { sfits = g .0 .1 };
-      h-fits = record { sfits = g .1 .0 .1 };
-      z-fits = record { sfits = g .1 .1 .0 .1 };
-      m-fits = record { sfits = g .1 .1 .1 .0 .1 };
-      n-fits = record { sfits = g .1 .1 .1 .1 .0 .1 };
-      t-fits = record { sfits = g .1 .1 .1 .1 .1 .0 .1 };
+      left-fits = record { sfits = g .1 .0 .1 };
+      h-fits = record { sfits = g .1 .1 .0 .1 };
+      z-fits = record { sfits = g .1 .1 .1 .0 .1 };
+      m-fits = record { sfits = g .1 .1 .1 .1 .0 .1 };
+      n-fits = record { sfits = g .1 .1 .1 .1 .1 .0 .1 };
+      t-fits = record { sfits = g .1 .1 .1 .1 .1 .1 .0 .1 };
     }
 
 pub as-held : {left h z m n t : ℤ} (R : ℤ → ℤ → ℤ → ℤ → ℤ → Type 0) → Held left h z m n t → R h z m n t

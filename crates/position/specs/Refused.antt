@@ -1,12 +1,12 @@
 -- When a position is refused: the causes that a table has by itself are asked as in the table check.
-use mathlib.Core.Path.{_≡_, refl}
+use mathlib.Core.Path.{_≡_, refl, sym, subst₂}
 use mathlib.Core.List.{[], _∷_}
 use Prim.Native.Nat.{ℕ}
 use native.Mathlib.Omega.{arith}
 use lib.IntN.{ℤ}
 use Rattle.integers.specs.Decided.{stable, between-or-not}
 use Rattle.rules.specs.Refusals.{Given, done, refused, passed}
-use Rattle.rules.specs.Order.{Same, one-more-cause, other-way, carried, front, behind, clear}
+use Rattle.rules.specs.Order.{Same, one-more-cause, other-way, carried, stopped, went-on, passes-at-0, front, behind, clear}
 use Rattle.table.specs.Table.{Table, Holds, checkOrder}
 use Rattle.table.specs.Accepted.{Accepted, accepted-table}
 use Rattle.position.specs.Position.{WithinKnots, HoldsAt, of-table, position-outside, evaluationOrder}
@@ -30,6 +30,18 @@ module _ {t : Table} {x : ℤ} where
     where
       no : (p : ℕ) → HoldsAt t x 6 p → ⊥
       no p (position-outside f) = f b
+
+  -- what the table check and the position make of an evaluation's refusal
+  module _ {n p : ℕ} (g : Given (Holds t) checkOrder n p) where
+    pub table-refused : (n ≡ 0 → ⊥) → Given (HoldsAt t x) evaluationOrder n p
+    table-refused f = stopped (6 ∷ []) f (as-checked g)
+
+    pub position-refused : n ≡ 0 → (WithinKnots (t .knots) x → ⊥) → Given (HoldsAt t x) evaluationOrder 6 0
+    position-refused e f = went-on e (as-checked g) (refused-outside f)
+
+    pub none-refused : n ≡ 0 → WithinKnots (t .knots) x → Given (HoldsAt t x) evaluationOrder n p
+    none-refused e w =
+        subst₂ (Given (HoldsAt t x) evaluationOrder) (sym e) (sym (passes-at-0 e g)) (went-on e (as-checked g) (taken-inside w))
 
   -- what is known where nothing is refused
   module _ {n p : ℕ} (e : n ≡ 0) (g : Given (HoldsAt t x) evaluationOrder n p) where

@@ -10,12 +10,16 @@ use Rattle.cubic.specs.Piece.{unit, Monotone}
 use Rattle.rules.specs.Limits.{WidthWithin, RiseWithin}
 use Rattle.table.specs.Table.{Table, entry, step}
 use Rattle.table.specs.Accepted.{Accepted}
-use Rattle.position.specs.Position.{Belongs}
+use Rattle.position.specs.declared.Spot.{Spot}
+use Rattle.position.specs.declared.Sought.{Sought}
+use Rattle.position.specs.declared.Sought.the-variants.{Outside, On}
+use Rattle.position.specs.Position.{WithinKnots, Belongs}
 use Rattle.position.specs.Pieces.{within-list, inside-piece}
 
 -- "width h = right knot − left knot", "rise z = right value − left value", "m, n = left and right slope", "t = position − left knot"; the right value is an
 -- entry of 32 bits as the left one is
 pub record SpotOn (tab : Table) (i : ℕ) (x left h z m n t : ℤ) : Type 0 where
+  pub belongs : Belongs (tab .knots) x i
   pub left-is : left ≡ entry (tab .values) i
   pub h-is : h ≡ step (tab .knots) i
   pub z-is : z ≡ step (tab .values) i
@@ -23,6 +27,17 @@ pub record SpotOn (tab : Table) (i : ℕ) (x left h z m n t : ℤ) : Type 0 wher
   pub n-is : n ≡ entry (tab .slopes) (i + 1)
   pub t-is : t ≡ x -ℤ entry (tab .knots) i
   pub right-fits : SFits w32 (left +ℤ z)
+
+-- where a position lies: outside the knots, or in its piece
+pub data SoughtIn (tab : Table) (x : ℤ) : Sought → Type 0 where
+  outside : (WithinKnots (tab .knots) x → ⊥) → SoughtIn tab x Outside
+  on : {s : Spot} → WithinKnots (tab .knots) x → SpotOn tab (s .piece) x (s .left) (s .h) (s .z) (s .m) (s .n) (s .t) → SoughtIn tab x (On s)
+
+pub sought-outside : {tab : Table} {x : ℤ} → SoughtIn tab x Outside → WithinKnots (tab .knots) x → ⊥
+sought-outside (outside f) = f
+
+pub sought-on : {tab : Table} {x : ℤ} {s : Spot} → SoughtIn tab x (On s) → WithinKnots (tab .knots) x × SpotOn tab (s .piece) x (s .left) (s .h) (s .z) (s .m) (s .n) (s .t)
+sought-on (on w s) = (w, s)
 
 -- what is said of a spot's numbers is said of the table's
 pub of-spot : {tab : Table} {i : ℕ} {x left h z m n t : ℤ} (R : ℤ → ℤ → ℤ → ℤ → ℤ → ℤ → Type 0) → SpotOn tab i x left h z m n t → R left h z m n t
@@ -43,7 +58,7 @@ pub inside-accepted : {tab : Table} {i : ℕ} {x : ℤ} → Accepted tab → Bel
 inside-accepted {i = i} a b =
     let l = within-list b in record { width = a .limits .widths i l; rise = a .limits .rises i l; monotone = a .pieces i l; place = inside-piece (a .limits) b }
 
-pub inside-spot : {tab : Table} {i : ℕ} {x left h z m n t : ℤ} → Accepted tab → Belongs (tab .knots) x i → SpotOn tab i x left h z m n t → InPiece h z m n t
-inside-spot {t = t} a b s =
+pub inside-spot : {tab : Table} {i : ℕ} {x left h z m n t : ℤ} → Accepted tab → SpotOn tab i x left h z m n t → InPiece h z m n t
+inside-spot {t = t} a s =
     same₄ (λ (h z m n : ℤ). InPiece h z m n t) (sym (s .h-is)) (sym (s .z-is)) (sym (s .m-is)) (sym (s .n-is))
-    (subst (InPiece _ _ _ _) (sym (s .t-is)) (inside-accepted a b))
+    (subst (InPiece _ _ _ _) (sym (s .t-is)) (inside-accepted a (s .belongs)))

@@ -1,9 +1,11 @@
 // Where a position lies: the piece that it belongs to, once the whole table is accepted, or why there is none.
-ghost use Rattle.rules.specs.Refusals.{Given};
+ghost use Prim.Native.Nat.{_<_};
+ghost use lib.ListN.{length};
+ghost use Rattle.integers.specs.Promise.{Decided};
 ghost use Rattle.table.specs.Table.{table};
 ghost use Rattle.table.specs.Accepted.{Accepted};
-ghost use Rattle.position.specs.Position.{HoldsAt, evaluationOrder, Belongs, Located};
-ghost use Rattle.position.specs.Spot.{SpotOn};
+ghost use Rattle.position.specs.Position.{WithinKnots, Belongs, Located};
+ghost use Rattle.position.specs.Spot.{SpotOn, SoughtIn};
 
 mod walk;
 
@@ -16,8 +18,9 @@ pub struct Place {
     pub piece: usize,
 }
 
-// A position in its piece: the piece's left value, its width, rise and slopes, and the counts from its left knot to the position.
+// A position in its piece: the piece's number, left value, width, rise and slopes, and the counts from its left knot to the position.
 pub struct Spot {
+    pub piece: usize,
     pub left: i32,
     pub h: i64,
     pub z: i64,
@@ -26,49 +29,28 @@ pub struct Spot {
     pub t: i64,
 }
 
-// 1 to 5, of the whole table wherever the position lies, and then 6.
-fn refusal(knots: &[i32], values: &[i32], slopes: &[i32], position: i32) -> Refusal
-    ensures { λ r. ⌜ Given (HoldsAt (table (now (knots .entry)) (now (values .entry)) (now (slopes .entry))) position) evaluationOrder (r .number) (r .place) ⌝ }
-{
-    let checked = table::check(knots, values, slopes);
-    if checked.number != rules::DONE {
-        return checked;
-    }
-    if position < knots[0] {
-        return Refusal {
-            number: rules::POSITION,
-            place: 0,
-        };
-    }
-    if knots[knots.len() - 1] < position {
-        return Refusal {
-            number: rules::POSITION,
-            place: 0,
-        };
-    }
-    Refusal {
-        number: rules::DONE,
-        place: 0,
-    }
+// Where a position lies in an accepted table: outside its knots, which is 6, or in a piece.
+pub enum Sought {
+    Outside,
+    On(Spot),
 }
 
-// The piece that the position belongs to, or the refusal, in the order 1, 2, 3, 4, 5, 6.
-pub fn locate(knots: &[i32], values: &[i32], slopes: &[i32], position: i32) -> Place
-    ensures { λ r. ⌜ Located (table (now (knots .entry)) (now (values .entry)) (now (slopes .entry))) position (r .refusal .number) (r .refusal .place) (r .piece) ⌝ }
+// Whether a position lies from the first knot to the last.
+fn within(knots: &[i32], position: i32) -> bool
+    requires { ⌜ 1 < length (now knots) ⌝ }
+    ensures { λ r. ⌜ Decided (WithinKnots (now (knots .entry)) position) r ⌝ }
 {
-    let refusal = refusal(knots, values, slopes, position);
-    if refusal.number != rules::DONE {
-        return Place { refusal, piece: 0 };
+    if position < knots[0] {
+        return false;
     }
-    let piece = walk::piece(knots, position);
-    Place { refusal, piece }
+    position <= knots[knots.len() - 1]
 }
 
 // Where a position is in piece i, which it belongs to, of an accepted table.
-pub fn spot_on(knots: &[i32], values: &[i32], slopes: &[i32], i: usize, position: i32) -> Spot
+fn spot_on(knots: &[i32], values: &[i32], slopes: &[i32], i: usize, position: i32) -> Spot
     requires { ⌜ Accepted (table (now knots) (now values) (now slopes)) ⌝ }
     requires { ⌜ Belongs (now knots) position i ⌝ }
-    ensures { λ r. ⌜ SpotOn (table (now (knots .entry)) (now (values .entry)) (now (slopes .entry))) i position (r .left) (r .h) (r .z) (r .m) (r .n) (r .t) ⌝ }
+    ensures { λ r. ⌜ SpotOn (table (now (knots .entry)) (now (values .entry)) (now (slopes .entry))) (r .piece) position (r .left) (r .h) (r .z) (r .m) (r .n) (r .t) ⌝ }
 {
     let left = values[i];
     let h = table::step(knots, i);
@@ -77,11 +59,47 @@ pub fn spot_on(knots: &[i32], values: &[i32], slopes: &[i32], i: usize, position
     let n = slopes[i + 1];
     let t = integers::difference(knots[i], position);
     Spot {
+        piece: i,
         left,
         h,
         z,
         m,
         n,
         t,
+    }
+}
+
+// Where a position lies in an accepted table. What is asked of the table is asked before, once for any number of positions.
+pub fn seek(knots: &[i32], values: &[i32], slopes: &[i32], position: i32) -> Sought
+    requires { ⌜ Accepted (table (now knots) (now values) (now slopes)) ⌝ }
+    ensures { λ r. ⌜ SoughtIn (table (now (knots .entry)) (now (values .entry)) (now (slopes .entry))) position r ⌝ }
+{
+    if !within(knots, position) {
+        return Sought::Outside;
+    }
+    let piece = walk::piece(knots, position);
+    Sought::On(spot_on(knots, values, slopes, piece, position))
+}
+
+// The piece that the position belongs to, or the refusal, in the order 1, 2, 3, 4, 5, 6.
+pub fn locate(knots: &[i32], values: &[i32], slopes: &[i32], position: i32) -> Place
+    ensures { λ r. ⌜ Located (table (now (knots .entry)) (now (values .entry)) (now (slopes .entry))) position (r .refusal .number) (r .refusal .place) (r .piece) ⌝ }
+{
+    let refusal = table::check(knots, values, slopes);
+    if refusal.number != rules::DONE {
+        return Place { refusal, piece: 0 };
+    }
+    match seek(knots, values, slopes, position) {
+        Sought::Outside => Place {
+            refusal: Refusal {
+                number: rules::POSITION,
+                place: 0,
+            },
+            piece: 0,
+        },
+        Sought::On(spot) => Place {
+            refusal,
+            piece: spot.piece,
+        },
     }
 }

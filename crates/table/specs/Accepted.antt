@@ -41,13 +41,15 @@ same-lengths {t} f =
       slopes = equal (λ g. f 0 (lengths-differ (λ (s : SameLengths t). g (s .slopes))));
     }
 
+pub count-asked : {t : Table} {n p : ℕ} {more : List ℕ} → n ≡ 0 → Given (Holds t) (1 ∷ 2 ∷ more) n p → CountWithin (pointCount t)
+count-asked e g = counted (λ f. clear e (rest e g) 0 (too-few-or-many f))
+
 pub accepted-points : {ks vs ss : List ℤ} {n p : ℕ} → n ≡ 0 → Given (Holds (table ks vs ss)) buildOrder n p → PointsWithin ks vs
 accepted-points e g =
-    let after-1 = rest e g in
-    let after-2 = rest e after-1 in
+    let after-2 = rest e (rest e g) in
     record {
       lengths = same-lengths (clear e g) .values;
-      count = counted (λ f. clear e after-1 0 (too-few-or-many f));
+      count = count-asked e g;
       widths = λ i l. stable (between-or-not _ _ _) (λ f. clear e after-2 i (width-outside l f));
       rises = λ i l. stable (between-or-not _ _ _) (λ f. clear e (rest e after-2) i (rise-outside l f));
     }

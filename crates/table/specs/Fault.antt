@@ -1,11 +1,21 @@
 -- What is the first fault of a piece, by the tests of its width, its rise and its cubic in turn.
-use mathlib.Core.Path.{subst}
+use mathlib.Core.Path.{_≡_, sym, ap₂, subst}
 use Prim.Native.Nat.{ℕ, _+_, _≤_, _<_}
 use native.Mathlib.Omega.{arith}
+use lib.IntN.{ℤ, _-ℤ_}
+use Rattle.integers.specs.Arguments.{same₄}
+use Rattle.cubic.specs.Piece.{unit, Monotone}
 use Rattle.rules.specs.Limits.{WidthWithin, RiseWithin}
 use Rattle.table.specs.Table.{Table, step, pointCount, MonotoneAt, Holds, lengths-differ, too-few-or-many, width-outside, rise-outside, not-monotone}
 use Rattle.table.specs.declared.search.Points.{Points}
-use Rattle.table.specs.Search.{asked, as-many, Askable, SoundAt, FaultAt, sound, faulty}
+use Rattle.table.specs.Search.{asked, as-many, Askable, EndAt, SoundAt, FaultAt, sound, faulty}
+
+-- the first cause, from 3 up to `last`, that holds of a piece of these numbers
+pub data FaultOf (last : ℕ) (h z m n : ℤ) : ℕ → Type 0 where
+  none : WidthWithin h → (4 ≤ last → RiseWithin z) → (5 ≤ last → Monotone unit h z m n) → FaultOf last h z m n 0
+  in-width : (WidthWithin h → ⊥) → FaultOf last h z m n 3
+  in-rise : 4 ≤ last → WidthWithin h → (RiseWithin z → ⊥) → FaultOf last h z m n 4
+  in-cubic : 5 ≤ last → WidthWithin h → RiseWithin z → (Monotone unit h z m n → ⊥) → FaultOf last h z m n 5
 
 module _ (t : Table) where
   -- what is asked up to `last` does not hold
@@ -16,26 +26,33 @@ module _ (t : Table) where
   sound-to last i w r m c a b (rise-outside l f) = f (r b)
   sound-to last i w r m c a b (not-monotone l f) = f (m b)
 
-  module _ {last : ℕ} (i : ℕ) (w : WidthWithin (step (t .knots) i)) where
-    pub sound-width : last < 4 → FaultAt (Holds t) last i 0
-    sound-width l = sound (sound-to last i w (λ (a : 4 ≤ last). absurd (omega (arith, l))) (λ (a : 5 ≤ last). absurd (omega (arith, l))))
+  -- the fault of the numbers between points i and i + 1 is the fault of piece i
+  fault-at : {last i n : ℕ} {k v m k' v' m' : ℤ} → Askable last → i + 1 < pointCount t → EndAt t last i k v m → EndAt t last (i + 1) k' v' m' → FaultOf last (k' -ℤ k) (v' -ℤ v) m m' n → FaultAt (Holds t) last i n
+  fault-at {last} {i} {k = k} {v} {m} {k'} {v'} {m'} a here l r = of
+    where
+      width : k' -ℤ k ≡ step (t .knots) i
+      width = ap₂ (λ (x y : ℤ). y -ℤ x) (l .knot-read .is) (r .knot-read .is)
 
-    pub sound-points : RiseWithin (step (t .values) i) → last < 5 → FaultAt (Holds t) last i 0
-    sound-points r l = sound (sound-to last i w (λ _. r) (λ (a : 5 ≤ last). absurd (omega (arith, l))))
+      rise : v' -ℤ v ≡ step (t .values) i
+      rise = ap₂ (λ (x y : ℤ). y -ℤ x) (l .value-read .is) (r .value-read .is)
 
-    pub sound-piece : RiseWithin (step (t .values) i) → MonotoneAt t i → FaultAt (Holds t) last i 0
-    sound-piece r m = sound (sound-to last i w (λ _. r) (λ _. m))
+      within : WidthWithin (k' -ℤ k) → WidthWithin (step (t .knots) i)
+      within = subst WidthWithin width
 
-  module _ {last : ℕ} (i : ℕ) (here : i + 1 < pointCount t) where
-    pub fault-of-width : Askable last → (WidthWithin (step (t .knots) i) → ⊥) → FaultAt (Holds t) last i 3
-    fault-of-width k f = faulty {c = 2} (omega arith) (k .low) (width-outside here f) (λ c a b _. absurd (omega (arith, a, b)))
+      rises : RiseWithin (v' -ℤ v) → RiseWithin (step (t .values) i)
+      rises = subst RiseWithin rise
 
-    pub fault-of-rise : 4 ≤ last → WidthWithin (step (t .knots) i) → (RiseWithin (step (t .values) i) → ⊥) → FaultAt (Holds t) last i 4
-    fault-of-rise l w f =
-        faulty {c = 3} (omega arith) l (rise-outside here f) (sound-to 3 i w (λ (a : 4 ≤ 3). absurd (omega arith)) (λ (a : 5 ≤ 3). absurd (omega arith)))
+      same : 5 ≤ last → Monotone unit (k' -ℤ k) (v' -ℤ v) m m' → MonotoneAt t i
+      same b = same₄ (Monotone unit) width rise (l .slope-read .is b) (r .slope-read .is b)
 
-    pub fault-of-bend : 5 ≤ last → WidthWithin (step (t .knots) i) → RiseWithin (step (t .values) i) → (MonotoneAt t i → ⊥) → FaultAt (Holds t) last i 5
-    fault-of-bend l w r f = faulty {c = 4} (omega arith) l (not-monotone here f) (sound-to 4 i w (λ _. r) (λ (a : 5 ≤ 4). absurd (omega arith)))
+      of : {n : ℕ} → FaultOf last (k' -ℤ k) (v' -ℤ v) m m' n → FaultAt (Holds t) last i n
+      of (none w f g) = sound (sound-to last i (within w) (λ b. rises (f b)) (λ b. same b (g b)))
+      of (in-width f) = faulty {c = 2} (omega arith) (a .low) (width-outside here (λ w. f (subst WidthWithin (sym width) w))) (λ c a b _. absurd (omega (arith, a, b)))
+      of (in-rise b w f) =
+          faulty {c = 3} (omega arith) b (rise-outside here (λ w. f (subst RiseWithin (sym rise) w))) (sound-to 3 i (within w) (λ (a : 4 ≤ 3). absurd (omega arith)) (λ (a : 5 ≤ 3). absurd (omega arith)))
+      of (in-cubic b w z f) =
+          faulty {c = 4} (omega arith) b (not-monotone here (λ o. f (same₄ (Monotone unit) (sym width) (sym rise) (sym (l .slope-read .is b)) (sym (r .slope-read .is b)) o)))
+          (sound-to 4 i (within w) (λ _. rises z) (λ (a : 5 ≤ 4). absurd (omega arith)))
 
   -- 3, 4 and 5 are of pieces that are there
   piece-there : (c q : ℕ) → 3 ≤ c → Holds t c q → q + 1 < pointCount t
@@ -47,3 +64,7 @@ module _ (t : Table) where
 
 pub asked-there : (p : Points) (t : Table) (c q : ℕ) → 3 ≤ c → Holds (asked p t) c q → q + 1 < pointCount t
 asked-there p t c q a h = subst (λ (n : ℕ). q + 1 < n) (as-many p t) (piece-there (asked p t) c q a h)
+
+pub fault-between : (p : Points) (t : Table) {last i n : ℕ} {k v m k' v' m' : ℤ} → Askable last → i + 1 < pointCount t → EndAt (asked p t) last i k v m → EndAt (asked p t) last (i + 1) k' v' m' → FaultOf last (k' -ℤ k) (v' -ℤ v) m m' n
+    → FaultAt (Holds (asked p t)) last i n
+fault-between p t {i = i} a here = fault-at (asked p t) a (subst (λ (n : ℕ). i + 1 < n) (sym (as-many p t)) here)

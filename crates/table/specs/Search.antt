@@ -1,16 +1,18 @@
 -- What the search for a faulty piece asks of a piece, and what it answers. Nobody has to believe this file: `first` promises `Given`.
-use mathlib.Core.Path.{_≡_, refl, subst}
+use mathlib.Core.Path.{_≡_, refl, sym, subst}
 use mathlib.Core.List.{List, [], _∷_}
-use Prim.Native.Nat.{ℕ, zero, suc, _≤_, _<_}
+use Prim.Native.Nat.{ℕ, zero, suc, _^_, _≤_, _<_}
 use native.Mathlib.Omega.{arith}
 use lib.IntN.{ℤ}
 use lib.ListN.{set, length-set}
-use mir.Syntax.{w32}
-use mir.Val.{SFits, toZ, ofZ}
+use lib.Signed.{mag}
+use mir.Syntax.{w64}
+use mir.Val.{toZ, ofZ}
 use mir.Facts.{toZ-ofZ}
+use Rattle.integers.specs.Within.{Within}
 use Rattle.table.specs.declared.search.Points.{Points}
 use Rattle.table.specs.declared.search.Points.the-variants.{Now, After}
-use Rattle.table.specs.Table.{Table, table, step, pointCount}
+use Rattle.table.specs.Table.{Table, table, entry, pointCount}
 
 -- the points that are asked
 abbrev pub knotsOf : Points → List ℤ → List ℤ
@@ -38,6 +40,24 @@ abbrev pub numbers : (a n : ℕ) → List ℕ
 numbers a zero = []
 numbers a (suc n) = a ∷ numbers (suc a) n
 
+-- the slope at point i, where a bend is asked for
+pub record SlopeFor (last : ℕ) (slopes : List ℤ) (i : ℕ) (m : ℤ) : Type 0 where
+  pub is : 5 ≤ last → m ≡ entry slopes i
+
+-- a number of 32 bits as it is read
+pub record Read (x r : ℤ) : Type 0 where
+  pub is : r ≡ x
+  pub within : Within 2147483648 r
+
+pub as-read : {x r : ℤ} → mag r < 2 ^ 63 → Read x r → Read x (toZ w64 (ofZ w64 r))
+as-read {x} ok = subst (Read x) (sym (toZ-ofZ (record { sfits = ok })))
+
+-- point i
+pub record EndAt (t : Table) (last i : ℕ) (knot value slope : ℤ) : Type 0 where
+  pub knot-read : Read (entry (t .knots) i) knot
+  pub value-read : Read (entry (t .values) i) value
+  pub slope-read : SlopeFor last (t .slopes) i slope
+
 module _ (H : ℕ → ℕ → Type 0) where
   -- none of the causes from 3 up to `last` holds at the place
   abbrev pub SoundAt : (last i : ℕ) → Type 0
@@ -56,8 +76,3 @@ module _ (H : ℕ → ℕ → Type 0) where
   pub data Scanned (last from : ℕ) : ℕ → ℕ → Type 0 where
     clean : ((q : ℕ) → from ≤ q → SoundAt last q) → Scanned last from 0 0
     found : {c p : ℕ} → from ≤ p → FaultAt last p (suc c) → ((q : ℕ) → from ≤ q → q < p → SoundAt last q) → Scanned last from (suc c) p
-
--- ---- a list with the new entry as it came in
-
-pub came-in : {r : ℤ} (list : List ℤ) (at : ℕ) (new : ℤ) (i : ℕ) → SFits w32 new → r ≡ step (set list at (toZ w32 (ofZ w32 new))) i → r ≡ step (set list at new) i
-came-in {r} list at new i f = subst (λ (x : ℤ). r ≡ step (set list at x) i) (toZ-ofZ f)

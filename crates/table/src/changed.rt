@@ -1,8 +1,8 @@
 // A change of one point, and the points as they would be after it: read so, and not written.
-ghost use mathlib.Core.Path.{_≡_};
-ghost use Prim.Native.Nat.{_+_, _<_};
+ghost use Prim.Native.Nat.{_<_};
 ghost use lib.ListN.{length, set};
-ghost use Rattle.table.specs.Table.{step};
+ghost use Rattle.table.specs.Table.{entry};
+ghost use Rattle.table.specs.Search.{Read};
 use crate::pieces;
 
 // A point's number, and the knot and the value that it shall have.
@@ -13,16 +13,13 @@ pub struct Change {
     pub value: i32,
 }
 
-// Piece i's width or rise of the list as it would be with `new` at the place `at`, if it has this place.
-pub(crate) fn step(list: &[i32], at: usize, new: i32, i: usize) -> i64
-    requires { ⌜ i + 1 < length (now list) ⌝ }
-    ensures { λ r. ⌜ r ≡ step (set (now (list .entry)) at new) i ⌝ }
+// Entry i of the list as it would be with `new` at the place `at`, if it has this place.
+pub(crate) fn entry(list: &[i32], at: usize, new: i32, i: usize) -> i64
+    requires { ⌜ i < length (now list) ⌝ }
+    ensures { λ r. ⌜ Read (entry (set (now (list .entry)) at new) i) r ⌝ }
 {
     if i == at {
-        return integers::difference(new, list[i + 1]);
+        return new as i64;
     }
-    if i + 1 == at {
-        return integers::difference(list[i], new);
-    }
-    pieces::step(list, i)
+    pieces::entry(list, i)
 }

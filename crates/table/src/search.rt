@@ -1,10 +1,12 @@
 // The one search for a faulty piece. It asks several causes of each piece, so that a table without a fault is gone over once.
-ghost use mathlib.Core.Path.{_≡_};
-ghost use Prim.Native.Nat.{_+_, _-_, _≤_, _<_};
+ghost use Prim.Native.Nat.{_-_, _<_};
+ghost use lib.IntN.{_-ℤ_};
 ghost use lib.ListN.{length};
+ghost use Rattle.integers.specs.Within.{Within};
 ghost use Rattle.rules.specs.Refusals.{Given};
-ghost use Rattle.table.specs.Table.{table, step, SameLengths, Holds};
-ghost use Rattle.table.specs.Search.{Askable, asked, knotsOf, valuesOf, numbers, FaultAt, Scanned};
+ghost use Rattle.table.specs.Table.{table, SameLengths, Holds};
+ghost use Rattle.table.specs.Search.{Askable, asked, numbers, SlopeFor, EndAt, Scanned};
+ghost use Rattle.table.specs.Fault.{FaultOf};
 use crate::changed;
 use crate::changed::Change;
 use crate::pieces;
@@ -16,54 +18,73 @@ pub(crate) enum Points {
     After(Change),
 }
 
-fn width(points: Points, knots: &[i32], i: usize) -> i64
-    requires { ⌜ i + 1 < length (now knots) ⌝ }
-    ensures { λ r. ⌜ r ≡ step (knotsOf points (now (knots .entry))) i ⌝ }
-{
-    match points {
-        Points::Now => pieces::step(knots, i),
-        Points::After(c) => changed::step(knots, c.point, c.knot, i),
-    }
+// A point as the search asks it, the end of one piece and the start of the next. Knot and value are widened, so that their differences fit.
+struct End {
+    knot: i64,
+    value: i64,
+    slope: i32,
 }
 
-fn rise(points: Points, values: &[i32], i: usize) -> i64
-    requires { ⌜ i + 1 < length (now values) ⌝ }
-    ensures { λ r. ⌜ r ≡ step (valuesOf points (now (values .entry))) i ⌝ }
+// The slope at point i where a bend is asked for; else no slope is read.
+fn slope(last: u32, slopes: &[i32], i: usize) -> i32
+    requires { ⌜ i < length (now slopes) ⌝ }
+    ensures { λ r. ⌜ SlopeFor last (now (slopes .entry)) i r ⌝ }
 {
-    match points {
-        Points::Now => pieces::step(values, i),
-        Points::After(c) => changed::step(values, c.point, c.value, i),
+    if last < rules::BEND {
+        return 0;
     }
+    slopes[i]
 }
 
-// The first of the causes 3 up to `last` that holds of piece i, or none. A bend is asked for only where the piece is within the limits.
-fn fault(points: Points, last: u32, knots: &[i32], values: &[i32], slopes: &[i32], i: usize) -> u32
-    requires { ⌜ Askable last ⌝ }
+// Point i, of the points that are asked.
+fn end_at(points: Points, last: u32, knots: &[i32], values: &[i32], slopes: &[i32], i: usize) -> End
     requires { ⌜ SameLengths (table (now knots) (now values) (now slopes)) ⌝ }
-    requires { ⌜ i + 1 < length (now knots) ⌝ }
-    ensures { λ r. ⌜ FaultAt (Holds (asked points (table (now (knots .entry)) (now (values .entry)) (now (slopes .entry))))) last i r ⌝ }
+    requires { ⌜ i < length (now knots) ⌝ }
+    ensures { λ r. ⌜ EndAt (asked points (table (now (knots .entry)) (now (values .entry)) (now (slopes .entry)))) last i (r .knot) (r .value) (r .slope) ⌝ }
 {
-    let h = width(points, knots, i);
+    let slope = slope(last, slopes, i);
+    match points {
+        Points::Now => End {
+            knot: pieces::entry(knots, i),
+            value: pieces::entry(values, i),
+            slope,
+        },
+        Points::After(c) => End {
+            knot: changed::entry(knots, c.point, c.knot, i),
+            value: changed::entry(values, c.point, c.value, i),
+            slope,
+        },
+    }
+}
+
+// The first of the causes 3 up to `last` that holds of the piece between two points, or none. A bend is asked for only where the piece is within the limits.
+fn fault(last: u32, left: End, right: End) -> u32
+    requires { ⌜ Within 2147483648 (left .knot) × Within 2147483648 (right .knot) ⌝ }
+    requires { ⌜ Within 2147483648 (left .value) × Within 2147483648 (right .value) ⌝ }
+    ensures { λ r. ⌜ FaultOf last (right .knot -ℤ left .knot) (right .value -ℤ left .value) (left .slope) (right .slope) r ⌝ }
+{
+    let h = right.knot - left.knot;
     if !rules::width_within(h) {
         return rules::WIDTH;
     }
     if last < rules::RISE {
         return rules::DONE;
     }
-    let z = rise(points, values, i);
+    let z = right.value - left.value;
     if !rules::rise_within(z) {
         return rules::RISE;
     }
     if last < rules::BEND {
         return rules::DONE;
     }
-    if !piece::is_monotone(h, z, slopes[i], slopes[i + 1]) {
+    if !piece::is_monotone(h, z, left.slope, right.slope) {
         return rules::BEND;
     }
     rules::DONE
 }
 
-// The first piece, `from` or after it, of which one of these causes holds, with the first of them; or none.
+// The first piece, `from` or after it, of which one of these causes holds, with the first of them; or none. A piece's right end is carried along as the
+// next one's left.
 fn scan(
     points: Points,
     last: u32,
@@ -74,11 +95,12 @@ fn scan(
 ) -> Refusal
     requires { ⌜ Askable last ⌝ }
     requires { ⌜ SameLengths (table (now knots) (now values) (now slopes)) ⌝ }
-    requires { ⌜ from ≤ length (now knots) ⌝ }
+    requires { ⌜ from < length (now knots) ⌝ }
     ensures { λ r. ⌜ Scanned (Holds (asked points (table (now (knots .entry)) (now (values .entry)) (now (slopes .entry))))) last from (r .number) (r .place) ⌝ }
 {
     let mut i = from;
     let mut number = rules::DONE;
+    let mut left = end_at(points, last, knots, values, slopes, i);
     let at = loop {
         if knots.len() - i < 2 {
             return Refusal {
@@ -86,10 +108,12 @@ fn scan(
                 place: 0,
             };
         }
-        number = fault(points, last, knots, values, slopes, i);
+        let right = end_at(points, last, knots, values, slopes, i + 1);
+        number = fault(last, left, right);
         if number != rules::DONE {
             break i;
         }
+        left = right;
         i += 1;
     };
     Refusal { number, place: at }
@@ -105,6 +129,7 @@ pub(crate) fn first(
 ) -> Refusal
     requires { ⌜ Askable last ⌝ }
     requires { ⌜ SameLengths (table (now knots) (now values) (now slopes)) ⌝ }
+    requires { ⌜ 0 < length (now knots) ⌝ }
     ensures { λ r. ⌜ Given (Holds (asked points (table (now (knots .entry)) (now (values .entry)) (now (slopes .entry))))) (numbers 3 (last - 2)) (r .number) (r .place) ⌝ }
 {
     let found = scan(points, last, knots, values, slopes, 0);

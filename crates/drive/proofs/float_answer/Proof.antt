@@ -1,82 +1,30 @@
 -- `drive::float_answer` meets its contract: 8 is asked of the position's piece once all before it has passed.
-use mathlib.Core.Path.{_≡_, sym, subst, subst₂}
+use mathlib.Core.Path.{_≡_, refl, sym, subst, subst₂}
 use mathlib.Core.List.{[], _∷_}
-use Prim.Native.Nat.{ℕ}
+use native.Mathlib.Omega.{arith}
 use borrow.Author.Needs.{needs}
 use lib.IntN.{ℤ}
 use mir.Facts.{toZ-ofZ}
-use native.Mathlib.Omega.{arith}
-use Rattle.integers.specs.Promise.{Decided}
-use Rattle.integers.specs.Decided.{told, denied}
-use Rattle.integers.specs.Arguments.{arguments, plainly₂, as-coded₁}
 use Rattle.rules.specs.declared.Refusal.{Refusal}
-use Rattle.rules.specs.Known.{known-width, known-rise}
 use Rattle.rules.specs.Refusals.{Given}
-use Rattle.rules.specs.Limits.{WidthWithin, RiseWithin, TooLarge}
-use Rattle.rules.specs.Order.{refused-answer, right-answer, answer-right, stopped, went-on, passes-at-0}
+use Rattle.rules.specs.Order.{refused-answer, stopped}
 use Rattle.table.specs.Table.{Table, table}
-use Rattle.table.specs.Accepted.{Accepted}
-use Rattle.position.specs.Position.{Belongs, Located}
-use Rattle.position.specs.Refused.{accepted-at}
-use Rattle.position.specs.Spot.{SpotOn, InPiece, of-spot, inside-spot}
-use Rattle.drive.specs.Drive.{Telling, resting, toldOf, ToldIn, Driving, HoldsFor, floatOrder}
-use Rattle.drive.specs.Refused.{as-evaluated, refused-large, taken-small}
+use Rattle.table.specs.Accepted.{Accepted, accepted-table}
+use Rattle.position.specs.Position.{WithinKnots, HoldsAt, evaluationOrder}
+use Rattle.position.specs.Spot.{SpotOn, SoughtIn, sought-outside, sought-on, of-spot, inside-spot}
+use Rattle.position.specs.Refused.{table-refused, position-refused, none-refused}
+use Rattle.drive.specs.Drive.{Telling, resting, toldOf, Driving}
+use Rattle.drive.specs.Refused.{AnsweredOn, as-evaluated, driving-on}
 use Rattle.drive.proofs.float_answer.Statement.{statement}
 use Rattle.drive.proofs.float_answer.Tie as tie
 
-locate-requires : tie.Need-locate-requires
-locate-requires c κs = search needs
+check-requires : tie.Need-check-requires
+check-requires c κs = search needs
 
 abbrev curveOf : tie.Start → Table
 curveOf s = table (s .args .knots .now) (s .args .values .now) (s .args .slopes .now)
 
--- where the position lies, said of the position itself
-located : (c : tie.After-locate) → Located (curveOf (c .before)) (c .before .args .position) (c .locate .result .refusal .number) (c .locate .result .refusal .place) (c .locate .result .piece)
-located c =
-    let r = c .locate .result in
-    subst (λ (x : ℤ). Located (curveOf (c .before)) x (r .refusal .number) (r .refusal .place) (r .piece)) (toZ-ofZ (c .before .fits .position)) (c .locate .ensures)
-
-accepted : (c : tie.Else1) → Accepted (curveOf (c .before .before .before .before))
-accepted c = accepted-at (c .if1 .left) (located (c .before .before .before) .refusal)
-
-belongs : (c : tie.Else1) → let s = c .before .before .before .before .args in Belongs (s .knots .now) (s .position) (c .before .before .before .locate .result .piece)
-belongs c = answer-right (c .if1 .left) (located (c .before .before .before) .piece)
-
-spot-on-requires : tie.Need-spot-on-requires
-spot-on-requires c κs =
-    let s = c .before .before .before .before in (
-      accepted c,
-      subst (λ (x : ℤ). Belongs (s .args .knots .now) x (c .before .before .before .locate .result .piece)) (sym (toZ-ofZ (s .fits .position))) (belongs c),
-    )
-
--- where in its piece
-module _ (c : tie.After-spot-on) where
-  abbrev s : tie.Start
-  s = c .before .before .before .before .before
-
-  abbrev i : ℕ
-  i = c .before .before .before .before .locate .result .piece
-
-  spot : let r = c .spot-on .result in SpotOn (curveOf s) i (s .args .position) (r .left) (r .h) (r .z) (r .m) (r .n) (r .t)
-  spot =
-      let r = c .spot-on .result in
-      subst (λ (x : ℤ). SpotOn (curveOf s) i x (r .left) (r .h) (r .z) (r .m) (r .n) (r .t)) (toZ-ofZ (s .fits .position)) (c .spot-on .ensures)
-
-  inside : let r = c .spot-on .result in InPiece (r .h) (r .z) (r .m) (r .n) (r .t)
-  inside = inside-spot (accepted (c .before)) (belongs (c .before)) spot
-
-too-large-requires : tie.Need-too-large-requires
-too-large-requires c κs =
-    let p = c .before .before in
-    let Γ = known-width (p .spot-on .result .h) (inside p .width) ∷ known-rise (p .spot-on .result .z) (inside p .rise) ∷ [] in
-    (as-coded₁ Γ WidthWithin (search arguments depth 30 fits 9000) tt (inside p .width), as-coded₁ Γ RiseWithin (search arguments depth 30 fits 9000) tt (inside p .rise))
-
--- whether the piece is too large, said of the piece itself
-large : (c : tie.After-too-large) → let r = c .before .before .before .spot-on .result in Decided (TooLarge (r .h) (r .z)) (c .too-large .result)
-large c =
-    let p = c .before .before .before in
-    let Γ = known-width (p .spot-on .result .h) (inside p .width) ∷ known-rise (p .spot-on .result .z) (inside p .rise) ∷ [] in
-    plainly₂ Γ (λ (h z : ℤ). Decided (TooLarge h z) (c .too-large .result)) (c .too-large .ensures) (search arguments depth 30 fits 9000) tt
+-- ---- refused as an evaluation is
 
 refused-requires : tie.Need-refused-requires
 refused-requires c κs = search needs
@@ -84,60 +32,74 @@ refused-requires c κs = search needs
 refused-requires-2 : tie.Need-refused-requires-2
 refused-requires-2 c κs = search needs
 
--- ---- the three answers
-
--- a refused one, by what `refused` says of it
-rests : {t : Table} {x : ℤ} {r q : Refusal} {a : Telling} → r ≡ q → a ≡ resting → (q .number ≡ 0 → ⊥) → Given (HoldsFor t x) floatOrder (q .number) (q .place) → Driving t x (r .number) (r .place) a
+-- by what `refused` says of its answer
+rests : {t : Table} {x : ℤ} {r q : Refusal} {a : Telling} → r ≡ q → a ≡ resting → (q .number ≡ 0 → ⊥) → Given (HoldsAt t x) evaluationOrder (q .number) (q .place) → Driving t x (r .number) (r .place) a
 rests {t} {x} e f n g =
-    subst₂ (λ (r : Refusal) (a : Telling). Driving t x (r .number) (r .place) a) (sym e) (sym f) (record { refusal = g; answer = refused-answer n })
+    subst₂ (λ (r : Refusal) (a : Telling). Driving t x (r .number) (r .place) a) (sym e) (sym f)
+    (record { refusal = stopped (8 ∷ []) n (as-evaluated g); answer = refused-answer n })
 
 returns : tie.Need-returns
 returns c =
     let e = c .before in
-    rests (c .refused .ensures .0) (c .refused .ensures .1) (e .if1 .taken) (stopped (8 ∷ []) (e .if1 .taken) (as-evaluated (located (e .before .before .before) .refusal)))
+    rests (c .refused .ensures .0) (c .refused .ensures .1) (e .if1 .taken) (table-refused (e .before .before .check .ensures) (e .if1 .taken))
+
+accepted : (c : tie.Else1) → Accepted (curveOf (c .before .before .before))
+accepted c = accepted-table (c .if1 .left) (c .before .before .check .ensures)
+
+seek-requires : tie.Need-seek-requires
+seek-requires c κs = accepted c
+
+-- where the position lies, said of the position itself
+sought : (c : tie.After-seek) → SoughtIn (curveOf (c .before .before .before .before)) (c .before .before .before .before .args .position) (c .seek .result)
+sought c =
+    let s = c .before .before .before .before in
+    subst (λ (x : ℤ). SoughtIn (curveOf s) x (c .seek .result)) (toZ-ofZ (s .fits .position)) (c .seek .ensures)
+
+enum-told : tie.Need-enum-told
+enum-told c = search needs
 
 returns-2 : tie.Need-returns-2
 returns-2 c =
-    let e = c .before in
-    let p = e .before .before .before .before in
-    let e1 = p .before in
-    let large-here = of-spot (λ (left h z m n t : ℤ). TooLarge h z) (spot p) (told (large (e .before)) (e .if2 .taken)) in
+    let k = c .before .before .before in
+    let e = k .before in
     rests (c .refused2 .ensures .0) (c .refused2 .ensures .1) (λ n. omega (arith, n))
-    (went-on (e1 .if1 .left) (as-evaluated (located (e1 .before .before .before) .refusal)) (refused-large (accepted e1) (belongs e1) large-here))
+    (position-refused (e .before .before .check .ensures) (e .if1 .left) (sought-outside (subst (SoughtIn _ _) (c .before .enum-told .given .1) (sought k))))
 
-told-requires : tie.Need-told-requires
-told-requires c κs = (inside (c .before .before .before .before), denied (large (c .before)) (c .if2 .left))
+-- ---- answered in the position's piece
+
+enum-known-spot : tie.Need-enum-known-spot
+enum-known-spot c = search needs
+
+-- within the knots, and where in its piece
+spot : (c : tie.After-spot)
+    → let s = c .before .before .before .before .before .before in
+    let r = c .spot .given .0 .0 in
+    WithinKnots (s .args .knots .now) (s .args .position) × SpotOn (curveOf s) (r .piece) (s .args .position) (r .left) (r .h) (r .z) (r .m) (r .n) (r .t)
+spot c = sought-on (subst (SoughtIn _ _) (c .spot .given .1) (sought (c .before .before)))
+
+answer-on-requires : tie.Need-answer-on-requires
+answer-on-requires c κs = let k = c .before in inside-spot (accepted (k .before .before .before)) (spot k .1)
 
 returns-3 : tie.Need-returns-3
 returns-3 c =
-    let e = c .before in
-    let p = e .before .before .before .before in
-    let e1 = p .before in
-    let small-here = of-spot (λ (left h z m n t : ℤ). TooLarge h z → ⊥) (spot p) (denied (large (e .before)) (e .if2 .left)) in
-    let l = located (e1 .before .before .before) in
-    record {
-      refusal =
-          subst₂ (Given (HoldsFor (curveOf (s p)) (s p .args .position)) floatOrder) (sym (e1 .if1 .left)) (sym (passes-at-0 (e1 .if1 .left) (l .refusal)))
-          (went-on (e1 .if1 .left) (as-evaluated (l .refusal)) (taken-small (accepted e1) (belongs e1) small-here));
-      answer =
-          right-answer (e1 .if1 .left)
-          (record {
-            piece = i p;
-            belongs = belongs e1;
-            is = of-spot (λ (left h z m n t : ℤ). ToldIn left h z m n t (toldOf (c .told .result))) (spot p) (c .told .ensures);
-          });
-    }
+    let k = c .before .before in
+    let e = k .before .before .before in
+    let on = spot k in
+    let r = c .answer-on .result in
+    driving-on (accepted e) (on .1 .belongs) (e .if1 .left) (none-refused (e .before .before .check .ensures) (e .if1 .left) (on .0))
+    (of-spot (λ (left h z m n t : ℤ). AnsweredOn (k .spot .given .0 .0 .piece) left h z m n t (r .refusal .number) (r .refusal .place) (toldOf (r .answer))) (on .1) (c .answer-on .ensures))
 
 pub float-answer-spec : {M : Type 1} → statement M
 float-answer-spec =
     tie.close
     (tie.spec
-    locate-requires
+    check-requires
     refused-requires
     returns
-    spot-on-requires
-    too-large-requires
+    seek-requires
+    enum-told
     refused-requires-2
+    enum-known-spot
+    answer-on-requires
     returns-2
-    told-requires
     returns-3)

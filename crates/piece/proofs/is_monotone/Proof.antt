@@ -1,18 +1,18 @@
--- `piece::is_monotone` meets its contract: each way through the code is one clause of the definition.
-use mathlib.Core.Path.{_≡_, sym, subst}
+-- `piece::is_monotone` meets its contract: the piece turned is never against its rise exactly if the piece is monotone.
+use mathlib.Core.Path.{refl, sym}
 use mathlib.Core.List.{List, [], _∷_}
 use lib.IntN.{ℤ, pos}
-use lib.Signed.{_<ℤ_, ltZ-yes}
 use mir.Syntax.{w32}
-use Rattle.integers.specs.Promise.{holds, fails}
+use Rattle.integers.specs.Promise.{withSign}
 use Rattle.integers.specs.Decided.{decided-by, told, denied}
-use Rattle.integers.specs.Order.{≤ℤ-antisym, 0<-product, 0<-minus-product}
-use Rattle.integers.specs.Sizes.{Known, held, fits, sized, plain-is, code}
-use Rattle.integers.specs.Tests.{tests, zeros, passed, failed, zero-yes, zero-no}
-use Rattle.integers.specs.Arguments.{plainly₃, as-coded₃, arguments}
+use Rattle.integers.specs.Within.{Within}
+use Rattle.integers.specs.Sizes.{Known, known, held, sized, code}
+use Rattle.integers.specs.Arguments.{arguments, same₄, plainly₂, plainly₃, plainly₄, as-coded₃}
 use Rattle.cubic.specs.Piece.{unit, NeverAgainst}
-use Rattle.cubic.specs.Monotone.{monotone-rising, monotone-falling, monotone-level}
+use Rattle.cubic.specs.OneTest.{Turned, turned-accepts, turned-complete}
 use Rattle.rules.specs.Known.{known-width, known-rise}
+use Rattle.piece.specs.Sizes.{WithSign, as-large, Moderate}
+use Rattle.piece.specs.Cubic.{UnitsOf}
 use Rattle.piece.proofs.is_monotone.Statement.{statement}
 use Rattle.piece.proofs.is_monotone.Tie as tie
 
@@ -25,114 +25,73 @@ given s =
     ∷ held w32 (s .args .n) (s .fits .n)
     ∷ []
 
-mul-rise : tie.Need-mul-rise
-mul-rise c = fits (given c) (search code depth 30 fits 9000) tt
+-- ---- turned
 
-cast-a : tie.Need-cast-a
-cast-a c = fits (given c) (search code depth 30 fits 9000) tt
+turned-requires : tie.Need-turned-requires
+turned-requires c κs = sized (given c) (search code depth 30 fits 9000) tt
 
-mul-a : tie.Need-mul-a
-mul-a c = fits (given c) (search code depth 30 fits 9000) tt
+turned-requires-2 : tie.Need-turned-requires-2
+turned-requires-2 c κs = sized (given (c .before)) (search code depth 30 fits 9000) tt
 
-cast-b : tie.Need-cast-b
-cast-b c = fits (given c) (search code depth 30 fits 9000) tt
+width : (c : tie.After-turned) → WithSign (c .before .args .z) (c .before .args .h) (c .turned .result)
+width c = plainly₂ (given (c .before)) (λ (s x : ℤ). WithSign s x (c .turned .result)) (c .turned .ensures) (search arguments depth 30 fits 9000) tt
 
-mul-b : tie.Need-mul-b
-mul-b c = fits (given c) (search code depth 30 fits 9000) tt
+rise : (c : tie.After-turned2) → let z = c .before .before .args .z in WithSign z z (c .turned2 .result)
+rise c = plainly₂ (given (c .before .before)) (λ (s x : ℤ). WithSign s x (c .turned2 .result)) (c .turned2 .ensures) (search arguments depth 30 fits 9000) tt
 
--- ---- a rise
+-- as large as they were
+width-size : (c : tie.After-turned) → Within 1024 (c .turned .result)
+width-size c = as-large (width c) (sized (given (c .before)) (search code depth 30 fits 9000) tt)
 
-up : (c : tie.Then1) → pos 0 <ℤ c .before .args .z
-up c = passed (given (c .before)) (c .if1 .taken) (search tests depth 30 fits 9000) tt
+rise-size : (c : tie.After-turned2) → Within 1048576 (c .turned2 .result)
+rise-size c = as-large (rise c) (sized (given (c .before .before)) (search code depth 30 fits 9000) tt)
 
-returns : tie.Need-returns
-returns c =
-    let p = c .before in
-    decided-by _ (λ e. monotone-rising (up p) (plainly₃ (given (p .before)) NeverAgainst (told (c .never-against .ensures) e) (search arguments depth 30 fits 9000) tt))
-    (λ e m. denied (c .never-against .ensures) e (as-coded₃ (given (p .before)) NeverAgainst (search arguments depth 30 fits 9000) tt (m .rising (up p))))
+abbrev after : tie.After-turned2 → List Known
+after c =
+    known (c .before .turned .result) 1024 (width-size (c .before)) ∷ known (c .turned2 .result) 1048576 (rise-size c) ∷ given (c .before .before)
+
+in-units-requires : tie.Need-in-units-requires
+in-units-requires c κs = (sized (after c) (search code depth 30 fits 9000) tt, sized (after c) (search code depth 30 fits 9000) tt)
+
+-- its Z, a and b
+module _ (c : tie.After-in-units) where
+  abbrev s : tie.Start
+  s = c .before .before .before
+
+  units : let r = c .in-units .result in UnitsOf unit (withSign (s .args .z) (s .args .h)) (withSign (s .args .z) (s .args .z)) (s .args .m) (s .args .n) (r .rise) (r .a) (r .b)
+  units =
+      let r = c .in-units .result in
+      same₄ (λ (h z m n : ℤ). UnitsOf unit h z m n (r .rise) (r .a) (r .b)) (width (c .before .before) .is) (rise (c .before) .is) refl refl
+      (plainly₄ (after (c .before)) (λ (h z m n : ℤ). UnitsOf unit h z m n (r .rise) (r .a) (r .b)) (c .in-units .ensures .0) (search arguments depth 30 fits 9000) tt)
+
+  moderate : let r = c .in-units .result in Moderate (r .rise) (r .a) (r .b)
+  moderate = c .in-units .ensures .1
+
+  abbrev made : List Known
+  made =
+      let r = c .in-units .result in
+      known (r .rise) _ (moderate .rise) ∷ known (r .a) _ (moderate .start) ∷ known (r .b) _ (moderate .end) ∷ []
+
+  -- what is never against the rise is the piece turned
+  turned-so : let r = c .in-units .result in NeverAgainst (r .rise) (r .a) (r .b) → Turned unit (s .args .h) (s .args .z) (s .args .m) (s .args .n)
+  turned-so = same₄ (λ (Z a b _ : ℤ). NeverAgainst Z a b) {u = pos 0} (units .rise-is) (units .a-is) (units .b-is) refl
+
+  so-turned : let r = c .in-units .result in Turned unit (s .args .h) (s .args .z) (s .args .m) (s .args .n) → NeverAgainst (r .rise) (r .a) (r .b)
+  so-turned = same₄ (λ (Z a b _ : ℤ). NeverAgainst Z a b) {u = pos 0} (sym (units .rise-is)) (sym (units .a-is)) (sym (units .b-is)) refl
+
+-- ---- the test
 
 never-against-requires : tie.Need-never-against-requires
 never-against-requires c κs =
-    let Γ = given (c .before) in
-    record {
-      up = subst (λ (v : ℤ). pos 0 <ℤ v) (sym (plain-is {Γ = Γ} (search code depth 30 fits 9000) tt)) (0<-product {x = unit} (ltZ-yes tt) (up c));
-      rise = sized Γ (search code depth 30 fits 9000) tt;
-      start = sized Γ (search code depth 30 fits 9000) tt;
-      end = sized Γ (search code depth 30 fits 9000) tt;
-    }
+    let p = c .before .before .before in as-coded₃ (made p) Moderate (search arguments depth 30 fits 9000) tt (moderate p)
 
--- ---- a fall
-
-down : (c : tie.Then2) → c .before .before .args .z <ℤ pos 0
-down c = passed (given (c .before .before)) (c .if2 .taken) (search tests depth 30 fits 9000) tt
-
-sub-never-against : tie.Need-sub-never-against
-sub-never-against c = fits (given (c .before .before)) (search code depth 30 fits 9000) tt
-
-sub-never-against-2 : tie.Need-sub-never-against-2
-sub-never-against-2 c = fits (given (c .before .before)) (search code depth 30 fits 9000) tt
-
-sub-never-against-3 : tie.Need-sub-never-against-3
-sub-never-against-3 c = fits (given (c .before .before)) (search code depth 30 fits 9000) tt
-
-returns-2 : tie.Need-returns-2
-returns-2 c =
-    let p = c .before in
-    let s = p .before .before in
-    decided-by _ (λ e. monotone-falling (down p) (plainly₃ (given s) NeverAgainst (told (c .never-against2 .ensures) e) (search arguments depth 30 fits 9000) tt))
-    (λ e m. denied (c .never-against2 .ensures) e (as-coded₃ (given s) NeverAgainst (search arguments depth 30 fits 9000) tt (m .falling (down p))))
-
-never-against-requires-2 : tie.Need-never-against-requires-2
-never-against-requires-2 c κs =
-    let Γ = given (c .before .before) in
-    record {
-      up = subst (λ (v : ℤ). pos 0 <ℤ v) (sym (plain-is {Γ = Γ} (search code depth 30 fits 9000) tt)) (0<-minus-product {x = unit} (ltZ-yes tt) (down c));
-      rise = sized Γ (search code depth 30 fits 9000) tt;
-      start = sized Γ (search code depth 30 fits 9000) tt;
-      end = sized Γ (search code depth 30 fits 9000) tt;
-    }
-
--- ---- neither
-
-level : (c : tie.Else2) → c .before .before .args .z ≡ pos 0
-level c =
-    let Γ = given (c .before .before) in
-    ≤ℤ-antisym (failed Γ (c .before .if1 .left) (search tests depth 30 fits 9000) tt)
-    (failed Γ (c .if2 .left) (search tests depth 30 fits 9000) tt)
-
-returns-3 : tie.Need-returns-3
-returns-3 c =
-    let p = c .before in
-    fails (λ m. zero-no (given (p .before .before)) (c .if3 .taken) (search zeros depth 30 fits 9000) tt (m .level (level p) .0))
-
-returns-4 : tie.Need-returns-4
-returns-4 c =
-    let p = c .before .before in
-    fails (λ m. zero-no (given (p .before .before)) (c .if4 .taken) (search zeros depth 30 fits 9000) tt (m .level (level p) .1))
-
-returns-5 : tie.Need-returns-5
-returns-5 c =
-    let p = c .before .before in
-    let s = p .before .before in
-    holds
-    (monotone-level (level p) (zero-yes (given s) (c .before .if3 .left) (search zeros depth 30 fits 9000) tt) (zero-yes (given s) (c .if4 .left) (search zeros depth 30 fits 9000) tt))
+returns : tie.Need-returns
+returns c =
+    let p = c .before .before .before .before in
+    let a = p .before .before .before .args in
+    decided-by _
+    (λ e. turned-accepts unit (a .h) (a .z) (a .m) (a .n) (turned-so p (plainly₃ (made p) NeverAgainst (told (c .never-against .ensures) e) (search arguments depth 30 fits 9000) tt)))
+    (λ e m. denied (c .never-against .ensures) e (as-coded₃ (made p) NeverAgainst (search arguments depth 30 fits 9000) tt (so-turned p (turned-complete unit (a .h) (a .z) (a .m) (a .n) m))))
 
 pub is-monotone-spec : {M : Type 1} → statement M
-is-monotone-spec =
-    tie.close
-    (tie.spec
-    mul-rise
-    cast-a
-    mul-a
-    cast-b
-    mul-b
-    never-against-requires
-    returns
-    sub-never-against
-    sub-never-against-2
-    sub-never-against-3
-    never-against-requires-2
-    returns-2
-    returns-3
-    returns-4
-    returns-5)
+is-monotone-spec = tie.close (tie.spec turned-requires turned-requires-2 in-units-requires never-against-requires returns)

@@ -1,42 +1,63 @@
--- `position::locate` meets its contract: the walk is made where nothing refuses the position.
-use native.Mathlib.Omega.{arith}
+-- `position::locate` meets its contract: the position is sought where nothing refuses the table.
 use borrow.Author.Needs.{needs}
-use mathlib.Core.Path.{sym, subst}
+use mathlib.Core.Path.{subst}
 use lib.IntN.{ℤ}
 use mir.Facts.{toZ-ofZ}
-use Rattle.rules.specs.Refusals.{Given}
+use native.Mathlib.Omega.{arith}
 use Rattle.rules.specs.Order.{refused-answer, right-answer}
-use Rattle.table.specs.Table.{table}
-use Rattle.position.specs.Position.{WithinKnots, Belongs, HoldsAt, evaluationOrder}
-use Rattle.position.specs.Refused.{accepted-at, inside-at}
+use Rattle.table.specs.Table.{Table, table}
+use Rattle.table.specs.Accepted.{accepted-table}
+use Rattle.position.specs.declared.Sought.{Sought}
+use Rattle.position.specs.Spot.{SoughtIn, sought-outside, sought-on}
+use Rattle.position.specs.Refused.{table-refused, position-refused, none-refused}
 use Rattle.position.proofs.locate.Statement.{statement}
 use Rattle.position.proofs.locate.Tie as tie
 
-refusal-requires : tie.Need-refusal-requires
-refusal-requires c κs = search needs
+check-requires : tie.Need-check-requires
+check-requires c κs = search needs
 
--- what refuses it, said of the position itself
-given : (c : tie.After-refusal) → let s = c .before .args in Given (HoldsAt (table (s .knots .now) (s .values .now) (s .slopes .now)) (s .position)) evaluationOrder (c .refusal .result .number) (c .refusal .result .place)
-given c =
-    let s = c .before .args in
-    subst (λ (x : ℤ). Given (HoldsAt (table (s .knots .now) (s .values .now) (s .slopes .now)) x) evaluationOrder (c .refusal .result .number) (c .refusal .result .place)) (toZ-ofZ (c .before .fits .position)) (c .refusal .ensures)
+abbrev given : tie.Start → Table
+given s = table (s .args .knots .now) (s .args .values .now) (s .args .slopes .now)
 
 returns : tie.Need-returns
-returns c = record { refusal = given (c .before .before); piece = refused-answer (c .if1 .taken) }
+returns c =
+    record { refusal = table-refused (c .before .before .check .ensures) (c .if1 .taken); piece = refused-answer (c .if1 .taken) }
 
-piece-requires : tie.Need-piece-requires
-piece-requires c κs =
-    let s = c .before .before .before in
-    let g = given (c .before .before) in
-    (omega (arith, accepted-at (c .if1 .left) g .limits .count .low), subst (WithinKnots (s .args .knots .now)) (sym (toZ-ofZ (s .fits .position))) (inside-at (c .if1 .left) g))
+seek-requires : tie.Need-seek-requires
+seek-requires c κs = accepted-table (c .if1 .left) (c .before .before .check .ensures)
+
+enum-told : tie.Need-enum-told
+enum-told c = search needs
+
+enum-known-spot : tie.Need-enum-known-spot
+enum-known-spot c = search needs
+
+-- where the position lies, said of the position itself
+sought : (c : tie.After-seek) → SoughtIn (given (c .before .before .before .before)) (c .before .before .before .before .args .position) (c .seek .result)
+sought c =
+    let s = c .before .before .before .before in
+    subst (λ (x : ℤ). SoughtIn (given s) x (c .seek .result)) (toZ-ofZ (s .fits .position)) (c .seek .ensures)
 
 returns-2 : tie.Need-returns-2
 returns-2 c =
-    let s = c .before .before .before .before in
+    let k = c .before .before in
+    let e = k .before in
     record {
-      refusal = given (c .before .before .before);
-      piece = right-answer (c .before .if1 .left) (subst (λ (x : ℤ). Belongs (s .args .knots .now) x (c .piece .result)) (toZ-ofZ (s .fits .position)) (c .piece .ensures));
+      refusal = position-refused (e .before .before .check .ensures) (e .if1 .left) (sought-outside (subst (SoughtIn _ _) (c .enum-told .given .1) (sought k)));
+      piece = refused-answer (λ n. omega (arith, n));
+    }
+
+returns-3 : tie.Need-returns-3
+returns-3 c =
+    let k = c .before .before .before in
+    let e = k .before in
+    let on = sought-on (subst (SoughtIn _ _) (c .before .spot .given .1) (sought k)) in
+    record {
+      refusal = none-refused (e .before .before .check .ensures) (e .if1 .left) (on .0);
+      piece = right-answer (e .if1 .left) (on .1 .belongs);
     }
 
 pub locate-spec : {M : Type 1} → statement M
-locate-spec = tie.close (tie.spec refusal-requires returns piece-requires returns-2)
+locate-spec =
+    tie.close
+    (tie.spec check-requires returns seek-requires enum-told enum-known-spot returns-2 returns-3)

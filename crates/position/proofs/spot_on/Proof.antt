@@ -112,6 +112,7 @@ returns c =
     let left-is = toZ-ofZ (left at-left) in
     let z-is = rise at-rise in
     record {
+      belongs = at-left .before .pre .1;
       left-is = left-is;
       h-is = width (at-rise .before .before);
       z-is = z-is;

@@ -3,7 +3,6 @@ use mathlib.Core.Path.{_≡_, sym, _∙_, ap, subst}
 use mathlib.Core.List.{List, [], _∷_}
 use borrow.Author.Needs.{needs}
 use lib.IntN.{ℤ, pos}
-use lib.Signed.{ltZ-yes}
 use mir.Syntax.{w32, w64}
 use Rattle.integers.specs.Promise.{Between, Quotient, floorOf}
 use Rattle.integers.specs.Within.{Within}
@@ -48,7 +47,7 @@ module _ (c : tie.After-coefficients) where
 
   small : let r = c .coefficients .result in Small (r .first) (r .second) (r .third)
   small =
-      let k = monotone-small {M = 268435456} {U = unit} (ltZ-yes tt) (s .pre .monotone) (sized (known-rise (s .args .z) (s .pre .rise) ∷ []) (search code depth 30 fits 9000) tt) in
+      let k = monotone-small {M = 268435456} {U = unit} (s .pre .monotone) (sized (known-rise (s .args .z) (s .pre .rise) ∷ []) (search code depth 30 fits 9000) tt) in
       record {
         one = subst (Within _) (sym (are .first-is)) (k .start);
         two = subst (Within _) (sym (are .second-is)) (k .second);

@@ -45,7 +45,7 @@ abbrev then : tie.Else2 → Table
 then c = let s = start c .args in changedBy (s .change) (table (s .knots .now) (s .values .now) (s .slopes .now))
 
 first-requires : tie.Need-first-requires
-first-requires c κs = (record { low = omega arith; high = omega arith }, equally-long (c .before .before))
+first-requires c κs = (record { low = omega arith; high = omega arith }, (equally-long (c .before .before), omega (arith, is-there c)))
 
 steps : (c : tie.After-first) → Given (Holds (then (c .before))) (3 ∷ 4 ∷ []) (c .first .result .number) (c .first .result .place)
 steps c = c .first .ensures

@@ -22,7 +22,7 @@ abbrev cause : tie.Start Inv-loop μ-loop → ℕ → ℕ → Type 0
 cause s = Holds (asked (s .args .points) (table (s .args .knots .now) (s .args .values .now) (s .args .slopes .now)))
 
 scan-requires : tie.Need-scan-requires Inv-loop μ-loop
-scan-requires c κs = (c .pre .0, (c .pre .1, omega arith))
+scan-requires c κs = (c .pre .0, (c .pre .1 .0, c .pre .1 .1))
 
 loop-holds : tie.Need-loop-holds Inv-loop μ-loop
 loop-holds c = begins (cause (c .before)) (c .scan .ensures)
@@ -48,7 +48,7 @@ scan-requires-2 : tie.Need-scan-requires-2 Inv-loop μ-loop
 scan-requires-2 c κs =
     let s = c .before .before .before in
     let inv = c .before .loop .inv in
-    (record { low = omega (arith, above-3 c); high = omega (arith, standing-within (cause s) inv, s .pre .0 .high) }, (s .pre .1, omega (arith, there c)))
+    (record { low = omega (arith, above-3 c); high = omega (arith, standing-within (cause s) inv, s .pre .0 .high) }, (s .pre .1 .0, there c))
 
 -- what is asked there: what comes before the number that stands, from the next piece on
 behind : (c : tie.After-scan2 Inv-loop μ-loop) → let w = c .before in Scanned (cause (w .before .before .before)) (w .before .loop .number - 1) (w .before .loop .place + 1) (c .scan2 .result .number) (c .scan2 .result .place)
