@@ -38,7 +38,7 @@ $(library): $(sources)
 	@command -v rt >/dev/null || { echo "make: there is no rt on the PATH; put the bin folder of the Rattle kit on it" >&2; exit 1; }
 	@mkdir -p $(@D) && touch $(@D)/began
 	@echo "make: proving and building the library, seconds, or some minutes on first use .." >&2
-	@rt staticlib exports >$(@D)/said 2>&1 </dev/null || { cat $(@D)/said >&2; echo "make: the library is not proved; what rt staticlib said is above" >&2; exit 1; }
+	@tools/prove make staticlib exports || { echo "make: the library is not proved; what rt staticlib said is above" >&2; exit 1; }
 	@cp target/staticlib/libexports.a $@ && touch -r $(@D)/began $@
 
 install: $(library)
