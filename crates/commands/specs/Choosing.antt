@@ -8,7 +8,7 @@ use lib.Dec.{eqb}
 use lib.ListN.{length, getD, List·getD-eq-default}
 use borrow.Author.Tests.{eqb-true, eq-eqb}
 use Rattle.words.specs.Runs.{by-test}
-use Rattle.commands.specs.declared.asked.Command.{Command}
+use Rattle.commands.specs.declared.Command.{Command}
 use Rattle.commands.specs.Commands.{same, chosen}
 
 -- the place of the first name that the word is, or the end of the names

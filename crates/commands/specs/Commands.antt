@@ -11,13 +11,13 @@ use Rattle.decimals.specs.declared.reading.Number32
 use Rattle.decimals.specs.Decimal.{numberOf, number32Of}
 use Rattle.lists.specs.declared.outcome.Reading
 use Rattle.lists.specs.Lists.{readingOf}
-use Rattle.commands.specs.declared.asked.List as Lists
-use Rattle.commands.specs.declared.asked.List.the-variants.{Knots, Values, Slopes}
-use Rattle.commands.specs.declared.asked.Fault.the-variants.{TooLong, NoCommand, TooFew, TooMany, NoList, NotDecimal, Beyond32, Beyond64}
-use Rattle.commands.specs.declared.asked.Command.{Command}
-use Rattle.commands.specs.declared.asked.Command.the-variants.{Nothing, Wrong, Set, Show, Piece, Build, Check, At, Drive, Change}
-use Rattle.commands.specs.declared.findings.Finding.{Finding}
-use Rattle.commands.specs.declared.findings.Finding.the-variants.{Clear, Faulty}
+use Rattle.commands.specs.declared.List as Lists
+use Rattle.commands.specs.declared.List.the-variants.{Knots, Values, Slopes}
+use Rattle.commands.specs.declared.Fault.the-variants.{TooLong, NoCommand, TooFew, TooMany, NoList, NotDecimal, Beyond32, Beyond64}
+use Rattle.commands.specs.declared.Command.{Command}
+use Rattle.commands.specs.declared.Command.the-variants.{Nothing, Wrong, Set, Show, Piece, Build, Check, At, Drive, Change}
+use Rattle.commands.specs.declared.Finding.{Finding}
+use Rattle.commands.specs.declared.Finding.the-variants.{Clear, Faulty}
 
 -- ---- what is found of a command's words, which are counted from 1
 

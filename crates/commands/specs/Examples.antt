@@ -11,9 +11,9 @@ use Rattle.words.specs.Words.{isSeparator, wordsAfter, wordsOf}
 use Rattle.decimals.specs.Decimal.{areDigits, natural}
 use Rattle.lists.specs.declared.outcome.Reading.the-variants.{Numbers}
 use Rattle.lists.specs.Lists.{readingFrom}
-use Rattle.commands.specs.declared.asked.List.the-variants.{Knots, Values, Slopes}
-use Rattle.commands.specs.declared.asked.Fault.the-variants.{TooLong, NoCommand, TooFew, TooMany, NoList, NotDecimal, Beyond32, Beyond64}
-use Rattle.commands.specs.declared.asked.Command.the-variants.{Nothing, Wrong, Set, Show, Piece, Build, Check, At, Drive, Change}
+use Rattle.commands.specs.declared.List.the-variants.{Knots, Values, Slopes}
+use Rattle.commands.specs.declared.Fault.the-variants.{TooLong, NoCommand, TooFew, TooMany, NoList, NotDecimal, Beyond32, Beyond64}
+use Rattle.commands.specs.declared.Command.the-variants.{Nothing, Wrong, Set, Show, Piece, Build, Check, At, Drive, Change}
 use Rattle.commands.specs.Commands.{counted, orElse, isNumber, firstFault, numbers, wide, narrow, isList, unless, same, chosen, byWords, commandOf}
 
 -- no byte

@@ -3,13 +3,9 @@ ghost use mathlib.Core.Path.{_≡_};
 ghost use lib.ListN.{drop};
 ghost use Rattle.words.specs.Words.{wordsOf};
 ghost use Rattle.commands.specs.Commands.{counted, isNumber, firstFault, numbers, isList, unless};
-use crate::asked::Command;
-use crate::asked::Fault;
-
-pub(crate) enum Finding {
-    Clear,
-    Faulty(Fault),
-}
+use crate::Command;
+use crate::Fault;
+use crate::Finding;
 
 // Whether there are just n words.
 pub(crate) fn count(line: &[u8], from: usize, n: usize) -> Finding

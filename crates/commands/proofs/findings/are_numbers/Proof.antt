@@ -3,7 +3,7 @@ use Prim.Native.Nat.{ℕ}
 use borrow.Author.Needs.{needs}
 use mathlib.Core.Path.{_≡_, sym, ap, _∙_}
 use mathlib.Core.List.{List}
-use Rattle.commands.specs.declared.findings.Finding.{Finding}
+use Rattle.commands.specs.declared.Finding.{Finding}
 use Rattle.commands.specs.Commands.{orElse, counted, firstFault, numbers}
 use Rattle.commands.proofs.findings.are_numbers.Statement.{statement}
 use Rattle.commands.proofs.findings.are_numbers.Tie as tie

@@ -10,9 +10,9 @@ use denote.Ref.{now}
 use lib.ListN.{length, drop}
 use Rattle.words.specs.Words.{wordsOf, partOf}
 use Rattle.words.specs.Walk.{Found, a-word, no-word}
-use Rattle.commands.specs.declared.asked.Fault.{Fault}
-use Rattle.commands.specs.declared.findings.Finding.{Finding}
-use Rattle.commands.specs.declared.findings.Finding.the-variants.{Clear, Faulty}
+use Rattle.commands.specs.declared.Fault.{Fault}
+use Rattle.commands.specs.declared.Finding.{Finding}
+use Rattle.commands.specs.declared.Finding.the-variants.{Clear, Faulty}
 use Rattle.commands.specs.Commands.{orElse, isNumber, firstFault}
 use Rattle.commands.proofs.findings.first_fault.Statement.{statement}
 use Rattle.commands.proofs.findings.first_fault.Tie as tie

@@ -2,7 +2,7 @@
 use borrow.Author.Needs.{needs}
 use mathlib.Core.Path.{ap, ap₂, _∙_}
 use mir.Facts.{toZ-ofZ}
-use Rattle.commands.specs.declared.asked.Command.the-variants.{At}
+use Rattle.commands.specs.declared.Command.the-variants.{At}
 use Rattle.commands.specs.Commands.{unless}
 use Rattle.commands.proofs.parsing.at.Statement.{statement}
 use Rattle.commands.proofs.parsing.at.Tie as tie

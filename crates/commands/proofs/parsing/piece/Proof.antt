@@ -3,7 +3,7 @@ use borrow.Author.Needs.{needs}
 use mathlib.Core.Path.{_≡_, ap₂, _∙_}
 use lib.IntN.{ℤ}
 use mir.Facts.{toZ-ofZ}
-use Rattle.commands.specs.declared.asked.Command.the-variants.{Piece}
+use Rattle.commands.specs.declared.Command.the-variants.{Piece}
 use Rattle.commands.specs.Commands.{unless}
 use Rattle.commands.proofs.parsing.piece.Statement.{statement}
 use Rattle.commands.proofs.parsing.piece.Tie as tie
