@@ -19,9 +19,9 @@ use Rattle.commands.specs.declared.Command.the-variants.{Nothing, Wrong,
 use Rattle.commands.specs.declared.Finding.{Finding}
 use Rattle.commands.specs.declared.Finding.the-variants.{Clear, Faulty}
 
--- ---- what is found of a command's words, which are counted from 1
+-- ---- findings: a fault, or none
 
--- what is found first, unless it is clear
+-- the first of two, unless it is clear
 unfoldable pub orElse : Finding → Finding → Finding
 orElse Clear next = next
 orElse (Faulty f) next = Faulty f
@@ -31,15 +31,13 @@ unfoldable pub unless : Finding → Command → Command
 unless Clear command = command
 unless (Faulty f) command = Wrong f
 
--- as many as they should be
+-- ---- what is found of a command's words, which are counted from 1
+
+-- there are just n
 unfoldable pub counted : ℕ → List (List ℕ) → Finding
 counted n words = cond (ltb (length words) n) (Faulty TooFew) (cond (ltb n (length words)) (Faulty TooMany) Clear)
 
--- word k; it has no byte where there is no such word
-abbrev pub wordAt : ℕ → List (List ℕ) → List ℕ
-wordAt k words = getD words (k - 1) []
-
--- word k is to be a number of 64 bits, or of 32
+-- what word k says, where it is to be a number of 64 bits, or of 32
 abbrev pub found64 : ℕ → Number.Number → Finding
 found64 k (Number.the-variants.Is n) = Clear
 found64 k Number.the-variants.NotDecimal = Faulty (NotDecimal k)
@@ -50,10 +48,11 @@ found32 k (Number32.the-variants.Is n) = Clear
 found32 k Number32.the-variants.NotDecimal = Faulty (NotDecimal k)
 found32 k Number32.the-variants.TooLarge = Faulty (Beyond32 k)
 
+-- word k is to be a number: of 64 bits up to word `wides`, and behind it of 32
 unfoldable pub isNumber : (wides k : ℕ) → List ℕ → Finding
 isNumber wides k word = cond (leb k wides) (found64 k (numberOf word)) (found32 k (number32Of word))
 
--- the first fault of words of which the first is word k: those up to word `wides` are to be numbers of 64 bits, and all others of 32
+-- the first fault of words that are to be such numbers, of which the first is word k
 unfoldable pub firstFault : (wides k : ℕ) → List (List ℕ) → Finding
 firstFault wides k [] = Clear
 firstFault wides k (word ∷ words) = orElse (isNumber wides k word) (firstFault wides (suc k) words)
@@ -62,7 +61,11 @@ firstFault wides k (word ∷ words) = orElse (isNumber wides k word) (firstFault
 unfoldable pub numbers : (n wides : ℕ) → List (List ℕ) → Finding
 numbers n wides words = orElse (counted n words) (firstFault wides 1 words)
 
--- the number of 64 bits, or of 32, that word k is; 0 where it is none
+-- word k; it has no byte where there is no such word
+abbrev pub wordAt : ℕ → List (List ℕ) → List ℕ
+wordAt k words = getD words (k - 1) []
+
+-- the number of 64 bits, or of 32, that it is; 0 where it is none, which no command that is asked for has
 abbrev pub value64 : Number.Number → ℤ
 value64 (Number.the-variants.Is n) = n
 value64 Number.the-variants.NotDecimal = pos 0
@@ -137,7 +140,7 @@ same [] (c ∷ cs) = false
 same (b ∷ bs) [] = false
 same (b ∷ bs) (c ∷ cs) = eqb b c && same bs cs
 
--- what is asked for beside the first name that the word is, or else where it is none of them
+-- what stands beside the first name that the word is; `otherwise` where it is none of them
 unfoldable pub chosen : List (List ℕ × Command) → Command → List ℕ → Command
 chosen [] otherwise word = otherwise
 chosen (entry ∷ entries) otherwise word = cond (same word (entry .0)) (entry .1) (chosen entries otherwise word)
