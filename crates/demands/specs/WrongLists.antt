@@ -1,7 +1,7 @@
 -- Wrong programs with lines and lists of the workbench, each refuted by what it would answer to one call, or leave in a buffer or a list, as in `WrongText.antt`. A call is written by
 -- its arguments, what the buffer or list that it changes may hold when it returns, and what may be answered to it, last. Text is the list of its bytes: 97 to 99 are `a` to `c`, 107,
 -- 120 and 121 `k`, `x` and `y`, 32 is a space, 44 a comma, 10 an LF, 45 a `-`, and 48 to 57 are the digits.
-use mathlib.Core.Path.{_≡_, ap}
+use mathlib.Core.Path.{ap}
 use mathlib.Core.Bool.{Bool, true, false}
 use mathlib.Core.List.{List, [], _∷_, map}
 use Prim.Native.Nat.{ℕ}

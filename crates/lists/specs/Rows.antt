@@ -1,11 +1,12 @@
 -- A row is put together entry by entry, behind what a buffer holds.
-use Prim.Native.Nat.{ℕ, zero, suc, _≤_, _<_}
+use Prim.Native.Nat.{ℕ, zero, suc, _-_, min, _<_}
 use mathlib.Core.Path.{_≡_, refl, sym, ap, _∙_}
 use mathlib.Core.List.{List, [], _∷_, _++_, append-assoc, append-nil}
 use native.Mathlib.Omega.{arith}
 use lib.IntN.{ℤ, pos}
-use lib.ListN.{length, take, getD}
-use lib.Seq.{take-suc, take-all, length-take-le}
+use lib.ListN.{length, take, drop, getD, length-take, take-append-drop}
+use lib.Seq.{take-suc, take-all, take-append-seam}
+use Rattle.words.specs.Words.{partOf}
 use Rattle.words.specs.Lines.{Appended}
 use Rattle.words.specs.Joining.{parts}
 use Rattle.decimals.specs.Text.{textOf}
@@ -16,10 +17,20 @@ abbrev pub entryOf : ℕ → ℤ → List ℕ
 entryOf zero n = textOf n
 entryOf (suc i) n = 32 ∷ textOf n
 
--- where a row begins: nothing more is appended
-pub nothing-more : (buffer : List ℕ) (r : ℕ) → r ≤ length buffer → Appended buffer r [] buffer r
-nothing-more buffer r h =
-    parts h (sym (ap (take (length buffer)) (append-nil (take r buffer)) ∙ take-all (length buffer) (take r buffer) (omega (arith, length-take-le r buffer h)))) refl
+-- where a row begins: nothing is appended, and what has no room is not held
+pub nothing-yet : (buffer : List ℕ) (held r : ℕ) → r ≡ min held (length buffer) → Appended buffer held [] buffer r
+nothing-yet buffer held r e =
+    let front = take held buffer in
+    let size : r ≡ length front = e ∙ sym (length-take held buffer) in
+    parts (omega arith)
+    (ap (λ (n : ℕ). take n buffer) size ∙ ap (take (length front)) (sym (take-append-drop held buffer)) ∙ take-append-seam front (drop held buffer)
+    ∙ sym (ap (take (length buffer)) (append-nil front) ∙ take-all (length buffer) front (omega arith)))
+    refl
+
+-- the text of one space, up to i, and the number are entry i
+pub entry-is : (i : ℕ) (n : ℤ) → partOf (32 ∷ []) 0 i ++ textOf n ≡ entryOf i n
+entry-is zero n = refl
+entry-is (suc i) n = ap (λ (space : List ℕ). space ++ textOf n) (take-all (suc i - 0) (32 ∷ []) (omega arith))
 
 spaced-on : (xs : List ℤ) (n : ℤ) → spaced (xs ++ (n ∷ [])) ≡ spaced xs ++ (32 ∷ textOf n)
 unfolding spaced

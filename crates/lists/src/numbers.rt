@@ -49,7 +49,7 @@ pub fn reading(line: &[u8], from: usize) -> Reading
     }
 }
 
-// Where the first word of the line ends.
+// Where the first word of the line ends, and 0 where it has none.
 fn behind_first(line: &[u8]) -> usize
     ensures { λ r. ⌜ wordsOf (drop r (now (line .entry))) ≡ drop 1 (wordsOf (now (line .entry))) ⌝ }
 {
