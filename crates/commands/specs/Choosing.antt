@@ -1,14 +1,14 @@
 -- Choosing by a name's place among the names, which is how the code does it.
 use Prim.Native.Nat.{ℕ, zero, suc, _≤_}
 use mathlib.Core.Path.{_≡_, refl, sym, ap, _∙_}
-use mathlib.Core.Bool.{Bool, true, false, cond, _&&_}
+use mathlib.Core.Bool.{Bool, true, false, cond}
 use mathlib.Core.List.{List, [], _∷_}
 use native.Mathlib.Omega.{arith}
 use lib.Dec.{eqb}
 use lib.ListN.{length, getD, List·getD-eq-default}
 use borrow.Author.Tests.{eqb-true, eq-eqb}
 use Rattle.words.specs.Runs.{by-test}
-use Rattle.commands.specs.declared.asked.Command.{Command}
+use Rattle.commands.specs.declared.Command.{Command}
 use Rattle.commands.specs.Commands.{same, chosen}
 
 -- the place of the first name that the word is, or the end of the names

@@ -1,8 +1,8 @@
 -- What a line asks for. A line is the list of its bytes, without its ending; a word is the list of its own.
-use Prim.Native.Nat.{ℕ, _-_}
+use Prim.Native.Nat.{ℕ, suc, _-_}
 use mathlib.Core.Bool.{Bool, true, false, cond, _&&_}
 use mathlib.Core.List.{List, [], _∷_}
-use lib.Dec.{ltb, eqb}
+use lib.Dec.{ltb, leb, eqb}
 use lib.IntN.{ℤ, pos}
 use lib.ListN.{length, getD}
 use Rattle.words.specs.Words.{wordsOf}
@@ -11,26 +11,33 @@ use Rattle.decimals.specs.declared.reading.Number32
 use Rattle.decimals.specs.Decimal.{numberOf, number32Of}
 use Rattle.lists.specs.declared.outcome.Reading
 use Rattle.lists.specs.Lists.{readingOf}
-use Rattle.commands.specs.declared.asked.List as Lists
-use Rattle.commands.specs.declared.asked.List.the-variants.{Knots, Values, Slopes}
-use Rattle.commands.specs.declared.asked.Fault
-use Rattle.commands.specs.declared.asked.Fault.the-variants.{TooLong, NoCommand, TooFew, TooMany, NoList, NotDecimal, Beyond32, Beyond64}
-use Rattle.commands.specs.declared.asked.Command.{Command}
-use Rattle.commands.specs.declared.asked.Command.the-variants.{Nothing, Wrong, Set, Show, Piece, Build, Check, At, Drive, Change}
-use Rattle.commands.specs.declared.findings.Finding.{Finding}
-use Rattle.commands.specs.declared.findings.Finding.the-variants.{Clear, Faulty}
+use Rattle.commands.specs.declared.List as Lists
+use Rattle.commands.specs.declared.List.the-variants.{Knots, Values, Slopes}
+use Rattle.commands.specs.declared.Fault.the-variants.{TooLong, NoCommand, TooFew, TooMany, NoList, NotDecimal, Beyond32, Beyond64}
+use Rattle.commands.specs.declared.Command.{Command}
+use Rattle.commands.specs.declared.Command.the-variants.{Nothing, Wrong, Set, Show, Piece, Build, Check, At, Drive, Change}
+use Rattle.commands.specs.declared.Finding.{Finding}
+use Rattle.commands.specs.declared.Finding.the-variants.{Clear, Faulty}
+
+-- ---- findings: a fault, or none
+
+-- the first of two, unless it is clear
+unfoldable pub orElse : Finding → Finding → Finding
+orElse Clear next = next
+orElse (Faulty f) next = Faulty f
+
+-- a command, unless a fault is found
+unfoldable pub unless : Finding → Command → Command
+unless Clear command = command
+unless (Faulty f) command = Wrong f
 
 -- ---- what is found of a command's words, which are counted from 1
 
--- as many as they should be
+-- there are just n
 unfoldable pub counted : ℕ → List (List ℕ) → Finding
 counted n words = cond (ltb (length words) n) (Faulty TooFew) (cond (ltb n (length words)) (Faulty TooMany) Clear)
 
--- word k; it has no byte where there is no such word
-abbrev pub wordAt : ℕ → List (List ℕ) → List ℕ
-wordAt k words = getD words (k - 1) []
-
--- word k is a number of 64 bits, or of 32
+-- what word k says, where it is to be a number of 64 bits, or of 32
 abbrev pub found64 : ℕ → Number.Number → Finding
 found64 k (Number.the-variants.Is n) = Clear
 found64 k Number.the-variants.NotDecimal = Faulty (NotDecimal k)
@@ -41,13 +48,24 @@ found32 k (Number32.the-variants.Is n) = Clear
 found32 k Number32.the-variants.NotDecimal = Faulty (NotDecimal k)
 found32 k Number32.the-variants.TooLarge = Faulty (Beyond32 k)
 
-unfoldable pub isWide : ℕ → List (List ℕ) → Finding
-isWide k words = found64 k (numberOf (wordAt k words))
+-- word k is to be a number: of 64 bits up to word `wides`, and behind it of 32
+unfoldable pub isNumber : (wides k : ℕ) → List ℕ → Finding
+isNumber wides k word = cond (leb k wides) (found64 k (numberOf word)) (found32 k (number32Of word))
 
-unfoldable pub isNarrow : ℕ → List (List ℕ) → Finding
-isNarrow k words = found32 k (number32Of (wordAt k words))
+-- the first fault of words that are to be such numbers, of which the first is word k
+unfoldable pub firstFault : (wides k : ℕ) → List (List ℕ) → Finding
+firstFault wides k [] = Clear
+firstFault wides k (word ∷ words) = orElse (isNumber wides k word) (firstFault wides (suc k) words)
 
--- the number that it is; 0 where it is none
+-- just n numbers, of which the first `wides` have 64 bits and the others 32
+unfoldable pub numbers : (n wides : ℕ) → List (List ℕ) → Finding
+numbers n wides words = orElse (counted n words) (firstFault wides 1 words)
+
+-- word k; it has no byte where there is no such word
+abbrev pub wordAt : ℕ → List (List ℕ) → List ℕ
+wordAt k words = getD words (k - 1) []
+
+-- the number of 64 bits, or of 32, that it is; 0 where it is none, which no command that is asked for has
 abbrev pub value64 : Number.Number → ℤ
 value64 (Number.the-variants.Is n) = n
 value64 Number.the-variants.NotDecimal = pos 0
@@ -72,19 +90,6 @@ foundList (Reading.the-variants.Beyond k) = Faulty (Beyond32 k)
 
 unfoldable pub isList : List (List ℕ) → Finding
 isList words = cond (ltb 2048 (length words)) (Faulty TooMany) (foundList (readingOf words))
-
--- ---- the first fault
-
-infixl 30 _orElse_
--- what is found first, unless it is clear
-unfoldable pub _orElse_ : Finding → Finding → Finding
-_orElse_ Clear next = next
-_orElse_ (Faulty f) next = Faulty f
-
--- a command, unless a fault is found
-unfoldable pub unless : Finding → Command → Command
-unless Clear command = command
-unless (Faulty f) command = Wrong f
 
 -- ---- names
 
@@ -135,7 +140,7 @@ same [] (c ∷ cs) = false
 same (b ∷ bs) [] = false
 same (b ∷ bs) (c ∷ cs) = eqb b c && same bs cs
 
--- what is asked for beside the first name that the word is, or else where it is none of them
+-- what stands beside the first name that the word is; `otherwise` where it is none of them
 unfoldable pub chosen : List (List ℕ × Command) → Command → List ℕ → Command
 chosen [] otherwise word = otherwise
 chosen (entry ∷ entries) otherwise word = cond (same word (entry .0)) (entry .1) (chosen entries otherwise word)
@@ -158,9 +163,7 @@ showOf words = unless (counted 1 words) (shownOf (wordAt 1 words))
 
 -- `piece H Z M N`
 abbrev pub pieceOf : List (List ℕ) → Command
-pieceOf words =
-    unless (counted 4 words orElse isWide 1 words orElse isWide 2 words orElse isNarrow 3 words orElse isNarrow 4 words)
-    (Piece (record { h = wide 1 words; z = wide 2 words; m = narrow 3 words; n = narrow 4 words }))
+pieceOf words = unless (numbers 4 2 words) (Piece (record { h = wide 1 words; z = wide 2 words; m = narrow 3 words; n = narrow 4 words }))
 
 -- `build`, `check`
 abbrev pub aloneOf : Command → List (List ℕ) → Command
@@ -168,17 +171,15 @@ aloneOf command words = unless (counted 0 words) command
 
 -- `at X`
 abbrev pub atOf : List (List ℕ) → Command
-atOf words = unless (counted 1 words orElse isNarrow 1 words) (At (narrow 1 words))
+atOf words = unless (numbers 1 0 words) (At (narrow 1 words))
 
 -- `drive X`
 abbrev pub driveOf : List (List ℕ) → Command
-driveOf words = unless (counted 1 words orElse isNarrow 1 words) (Drive (narrow 1 words))
+driveOf words = unless (numbers 1 0 words) (Drive (narrow 1 words))
 
 -- `change K X V`
 abbrev pub changeOf : List (List ℕ) → Command
-changeOf words =
-    unless (counted 3 words orElse isWide 1 words orElse isNarrow 2 words orElse isNarrow 3 words)
-    (Change (record { number = wide 1 words; knot = narrow 2 words; value = narrow 3 words }))
+changeOf words = unless (numbers 3 1 words) (Change (record { number = wide 1 words; knot = narrow 2 words; value = narrow 3 words }))
 
 -- ---- the line
 

@@ -1,5 +1,5 @@
 -- Worked examples of the definition, each by computing it: lines with what they ask for. Then lines that are too large to be written out.
-use Prim.Native.Nat.{ℕ, zero, suc, _+_, _*_, _≤_, _<_}
+use Prim.Native.Nat.{ℕ, zero, suc, _*_, _≤_, _<_}
 use mathlib.Core.Path.{_≡_, refl, ap, _∙_}
 use mathlib.Core.Bool.{false}
 use mathlib.Core.List.{List, [], _∷_}
@@ -8,13 +8,13 @@ use borrow.Author.Tests.{lt-ltb, le-ltb}
 use lib.IntN.{pos, negsuc}
 use lib.ListN.{length, replicate, length-replicate}
 use Rattle.words.specs.Words.{isSeparator, wordsAfter, wordsOf}
-use Rattle.decimals.specs.Decimal.{areDigits, natural, number32Of}
+use Rattle.decimals.specs.Decimal.{areDigits, natural}
 use Rattle.lists.specs.declared.outcome.Reading.the-variants.{Numbers}
 use Rattle.lists.specs.Lists.{readingFrom}
-use Rattle.commands.specs.declared.asked.List.the-variants.{Knots, Values, Slopes}
-use Rattle.commands.specs.declared.asked.Fault.the-variants.{TooLong, NoCommand, TooFew, TooMany, NoList, NotDecimal, Beyond32, Beyond64}
-use Rattle.commands.specs.declared.asked.Command.the-variants.{Nothing, Wrong, Set, Show, Piece, Build, Check, At, Drive, Change}
-use Rattle.commands.specs.Commands.{counted, isWide, isNarrow, wide, narrow, isList, _orElse_, unless, same, chosen, byWords, commandOf}
+use Rattle.commands.specs.declared.List.the-variants.{Knots, Values, Slopes}
+use Rattle.commands.specs.declared.Fault.the-variants.{TooLong, NoCommand, TooFew, TooMany, NoList, NotDecimal, Beyond32, Beyond64}
+use Rattle.commands.specs.declared.Command.the-variants.{Nothing, Wrong, Set, Show, Piece, Build, Check, At, Drive, Change}
+use Rattle.commands.specs.Commands.{counted, orElse, isNumber, firstFault, numbers, wide, narrow, isList, unless, same, chosen, byWords, commandOf}
 
 -- no byte
 abbrev pub empty : List ℕ
@@ -179,7 +179,7 @@ pub record Worked : Type 0 where
   pub change-large-asks : commandOf change-large ≡ Wrong (Beyond32 2)
 
 pub worked : Worked
-unfolding wordsAfter areDigits natural readingFrom counted isWide isNarrow wide narrow isList _orElse_ unless same chosen
+unfolding wordsAfter areDigits natural readingFrom counted orElse isNumber firstFault numbers wide narrow isList unless same chosen
 worked =
     record {
       empty-asks = refl;

@@ -1,17 +1,11 @@
 // What is found where the words of a command, which the line has from `from` on, are looked at: a fault, or none.
 ghost use mathlib.Core.Path.{_≡_};
-ghost use Prim.Native.Nat.{_≤_};
 ghost use lib.ListN.{drop};
 ghost use Rattle.words.specs.Words.{wordsOf};
-ghost use Rattle.commands.specs.Commands.{counted, isWide, isNarrow, isList, _orElse_, unless};
-use crate::asked::Command;
-use crate::asked::Fault;
-use crate::numbers::word_at;
-
-pub(crate) enum Finding {
-    Clear,
-    Faulty(Fault),
-}
+ghost use Rattle.commands.specs.Commands.{counted, isNumber, firstFault, numbers, isList, unless};
+use crate::Command;
+use crate::Fault;
+use crate::Finding;
 
 // Whether there are just n words.
 pub(crate) fn count(line: &[u8], from: usize, n: usize) -> Finding
@@ -27,27 +21,47 @@ pub(crate) fn count(line: &[u8], from: usize, n: usize) -> Finding
     Finding::Clear
 }
 
-// Whether word k, from 1, is a number of 64 bits.
-pub(crate) fn is_wide(line: &[u8], from: usize, k: usize) -> Finding
-    requires { ⌜ 1 ≤ k ⌝ }
-    ensures { λ r. ⌜ r ≡ isWide k (wordsOf (drop from (now (line .entry)))) ⌝ }
+// Whether a word, the k-th of its command, is a number: of 64 bits if it is among the first `wides`, else of 32.
+fn is_number(word: &[u8], k: usize, wides: usize) -> Finding
+    ensures { λ r. ⌜ r ≡ isNumber wides k (now (word .entry)) ⌝ }
 {
-    match decimals::whole(word_at(line, from, k)) {
-        decimals::Number::Is(_) => Finding::Clear,
-        decimals::Number::NotDecimal => Finding::Faulty(Fault::NotDecimal(k)),
-        decimals::Number::TooLarge => Finding::Faulty(Fault::Beyond64(k)),
+    if k <= wides {
+        return match decimals::whole(word) {
+            decimals::Number::Is(_) => Finding::Clear,
+            decimals::Number::NotDecimal => Finding::Faulty(Fault::NotDecimal(k)),
+            decimals::Number::TooLarge => Finding::Faulty(Fault::Beyond64(k)),
+        };
     }
-}
-
-// Whether it is one of 32 bits.
-pub(crate) fn is_narrow(line: &[u8], from: usize, k: usize) -> Finding
-    requires { ⌜ 1 ≤ k ⌝ }
-    ensures { λ r. ⌜ r ≡ isNarrow k (wordsOf (drop from (now (line .entry)))) ⌝ }
-{
-    match decimals::whole32(word_at(line, from, k)) {
+    match decimals::whole32(word) {
         decimals::Number32::Is(_) => Finding::Clear,
         decimals::Number32::NotDecimal => Finding::Faulty(Fault::NotDecimal(k)),
         decimals::Number32::TooLarge => Finding::Faulty(Fault::Beyond32(k)),
+    }
+}
+
+// The first fault of the words.
+fn first_fault(line: &[u8], from: usize, wides: usize) -> Finding
+    ensures { λ r. ⌜ r ≡ firstFault wides 1 (wordsOf (drop from (now (line .entry)))) ⌝ }
+{
+    let mut at = from;
+    let mut k = 0;
+    while let words::Word::At { start, end } = words::next_word(line, at) {
+        k += 1;
+        if let Finding::Faulty(fault) = is_number(words::part(line, start, end), k, wides) {
+            return Finding::Faulty(fault);
+        }
+        at = end;
+    }
+    Finding::Clear
+}
+
+// Whether there are just n words, all of them numbers, of which the first `wides` have 64 bits and the others 32.
+pub(crate) fn are_numbers(line: &[u8], from: usize, n: usize, wides: usize) -> Finding
+    ensures { λ r. ⌜ r ≡ numbers n wides (wordsOf (drop from (now (line .entry)))) ⌝ }
+{
+    match count(line, from, n) {
+        Finding::Clear => first_fault(line, from, wides),
+        Finding::Faulty(fault) => Finding::Faulty(fault),
     }
 }
 
@@ -62,16 +76,6 @@ pub(crate) fn is_list(line: &[u8], from: usize) -> Finding
         lists::Reading::Numbers => Finding::Clear,
         lists::Reading::NotDecimal(k) => Finding::Faulty(Fault::NotDecimal(k)),
         lists::Reading::Beyond(k) => Finding::Faulty(Fault::Beyond32(k)),
-    }
-}
-
-// The first of two findings, unless it is clear.
-pub(crate) fn or_else(found: Finding, next: Finding) -> Finding
-    ensures { λ r. ⌜ r ≡ (found orElse next) ⌝ }
-{
-    match found {
-        Finding::Clear => next,
-        Finding::Faulty(fault) => Finding::Faulty(fault),
     }
 }
 

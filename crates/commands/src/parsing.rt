@@ -3,16 +3,14 @@ ghost use mathlib.Core.Path.{_≡_};
 ghost use lib.ListN.{drop};
 ghost use Rattle.words.specs.Words.{wordsOf, partOf};
 ghost use Rattle.commands.specs.Commands.{isComment, setOf, shownOf, showOf, pieceOf, aloneOf, atOf, driveOf, changeOf, asked, commandOf};
-use crate::asked::Command;
-use crate::asked::Fault;
-use crate::asked::List;
-use crate::asked::Piece;
-use crate::asked::Point;
+use crate::Command;
+use crate::Fault;
+use crate::List;
+use crate::Piece;
+use crate::Point;
+use crate::findings::are_numbers;
 use crate::findings::count;
 use crate::findings::is_list;
-use crate::findings::is_narrow;
-use crate::findings::is_wide;
-use crate::findings::or_else;
 use crate::findings::unless_faulty;
 use crate::naming::place;
 use crate::numbers::narrow_at;
@@ -99,18 +97,13 @@ fn shown(name: &[u8]) -> Command
 fn piece(line: &[u8], from: usize) -> Command
     ensures { λ r. ⌜ r ≡ pieceOf (wordsOf (drop from (now (line .entry)))) ⌝ }
 {
-    let found = count(line, from, 4);
-    let found = or_else(found, is_wide(line, from, 1));
-    let found = or_else(found, is_wide(line, from, 2));
-    let found = or_else(found, is_narrow(line, from, 3));
-    let found = or_else(found, is_narrow(line, from, 4));
     let piece = Piece {
         h: wide_at(line, from, 1),
         z: wide_at(line, from, 2),
         m: narrow_at(line, from, 3),
         n: narrow_at(line, from, 4),
     };
-    unless_faulty(found, Command::Piece(piece))
+    unless_faulty(are_numbers(line, from, 4, 2), Command::Piece(piece))
 }
 
 // `build` and `check`, which have no words.
@@ -124,30 +117,30 @@ fn alone(line: &[u8], from: usize, command: Command) -> Command
 fn at(line: &[u8], from: usize) -> Command
     ensures { λ r. ⌜ r ≡ atOf (wordsOf (drop from (now (line .entry)))) ⌝ }
 {
-    let found = or_else(count(line, from, 1), is_narrow(line, from, 1));
-    unless_faulty(found, Command::At(narrow_at(line, from, 1)))
+    unless_faulty(
+        are_numbers(line, from, 1, 0),
+        Command::At(narrow_at(line, from, 1)),
+    )
 }
 
 // `drive X`.
 fn drive(line: &[u8], from: usize) -> Command
     ensures { λ r. ⌜ r ≡ driveOf (wordsOf (drop from (now (line .entry)))) ⌝ }
 {
-    let found = or_else(count(line, from, 1), is_narrow(line, from, 1));
-    unless_faulty(found, Command::Drive(narrow_at(line, from, 1)))
+    unless_faulty(
+        are_numbers(line, from, 1, 0),
+        Command::Drive(narrow_at(line, from, 1)),
+    )
 }
 
 // `change K X V`.
 fn change(line: &[u8], from: usize) -> Command
     ensures { λ r. ⌜ r ≡ changeOf (wordsOf (drop from (now (line .entry)))) ⌝ }
 {
-    let found = count(line, from, 3);
-    let found = or_else(found, is_wide(line, from, 1));
-    let found = or_else(found, is_narrow(line, from, 2));
-    let found = or_else(found, is_narrow(line, from, 3));
     let point = Point {
         number: wide_at(line, from, 1),
         knot: narrow_at(line, from, 2),
         value: narrow_at(line, from, 3),
     };
-    unless_faulty(found, Command::Change(point))
+    unless_faulty(are_numbers(line, from, 3, 1), Command::Change(point))
 }

@@ -6,12 +6,12 @@ use mathlib.Core.List.{List, [], _∷_}
 use lib.Dec.{lit≤, lit<}
 use lib.IntN.{ℤ, pos, negsuc}
 use lib.ListN.{length, replicate}
-use Rattle.commands.specs.declared.asked.List as Lists
-use Rattle.commands.specs.declared.asked.List.the-variants.{Knots, Values, Slopes}
-use Rattle.commands.specs.declared.asked.Fault.{Fault}
-use Rattle.commands.specs.declared.asked.Fault.the-variants.{TooLong, NoCommand, TooFew, TooMany, NoList, NotDecimal, Beyond32, Beyond64}
-use Rattle.commands.specs.declared.asked.Command.{Command}
-use Rattle.commands.specs.declared.asked.Command.the-variants.{Nothing, Wrong, Set, Show, Piece, Build, Check, At, Drive, Change}
+use Rattle.commands.specs.declared.List as Lists
+use Rattle.commands.specs.declared.List.the-variants.{Knots, Values, Slopes}
+use Rattle.commands.specs.declared.Fault.{Fault}
+use Rattle.commands.specs.declared.Fault.the-variants.{TooLong, NoCommand, TooFew, TooMany, NoList, NotDecimal, Beyond32, Beyond64}
+use Rattle.commands.specs.declared.Command.{Command}
+use Rattle.commands.specs.declared.Command.the-variants.{Nothing, Wrong, Set, Show, Piece, Build, Check, At, Drive, Change}
 use Rattle.commands.specs.Examples as lines
 use Rattle.commands.specs.Examples.{worked, too-long, spaces, knots-and, too-many, full-list}
 use Rattle.demands.specs.InstancesBelow.{bytes}

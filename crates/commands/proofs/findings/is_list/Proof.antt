@@ -1,12 +1,9 @@
 -- `commands::findings::is_list` meets its contract: there is no room for so many words, or what is found is what was read.
-use Prim.Native.Nat.{ℕ}
 use borrow.Author.Needs.{needs}
 use borrow.Author.Tests.{lt-ltb, le-ltb}
 use mathlib.Core.Path.{_≡_, sym, ap, _∙_}
-use mathlib.Core.Bool.{Bool, cond}
 use denote.Ref.{now}
-use lib.Dec.{ltb}
-use lib.ListN.{length, drop}
+use lib.ListN.{drop}
 use Rattle.words.specs.Words.{wordsOf}
 use Rattle.lists.specs.declared.outcome.Reading.{Reading}
 use Rattle.commands.specs.Commands.{foundList, isList}

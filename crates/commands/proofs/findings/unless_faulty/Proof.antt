@@ -1,7 +1,7 @@
 -- `commands::findings::unless_faulty` meets its contract, by the two cases of the finding.
 use borrow.Author.Needs.{needs}
 use mathlib.Core.Path.{sym, ap}
-use Rattle.commands.specs.declared.findings.Finding.{Finding}
+use Rattle.commands.specs.declared.Finding.{Finding}
 use Rattle.commands.specs.Commands.{unless}
 use Rattle.commands.proofs.findings.unless_faulty.Statement.{statement}
 use Rattle.commands.proofs.findings.unless_faulty.Tie as tie

@@ -7,7 +7,7 @@ use mathlib.Core.Path.{_≡_, refl, sym, _∙_}
 use mathlib.Core.List.{List, [], _∷_}
 use denote.Ref.{now}
 use lib.ListN.{length, drop, getD}
-use Rattle.words.specs.Words.{wordsOf, partOf}
+use Rattle.words.specs.Words.{wordsOf}
 use Rattle.words.specs.Walk.{Found, a-word, no-word}
 use Rattle.commands.specs.Commands.{wordAt}
 use Rattle.commands.proofs.numbers.word_at.Statement.{statement}

@@ -1,9 +1,7 @@
 -- `commands::parsing::alone` meets its contract: it is made as its definition is.
 use borrow.Author.Needs.{needs}
-use mathlib.Core.Path.{refl, ap, ap₂, _∙_}
-use mir.Facts.{toZ-ofZ}
-use Rattle.commands.specs.declared.asked.Command.the-variants.{Build}
-use Rattle.commands.specs.Commands.{_orElse_, unless}
+use mathlib.Core.Path.{refl, ap₂, _∙_}
+use Rattle.commands.specs.Commands.{unless}
 use Rattle.commands.proofs.parsing.alone.Statement.{statement}
 use Rattle.commands.proofs.parsing.alone.Tie as tie
 

@@ -1,20 +1,14 @@
 -- `commands::parsing::drive` meets its contract: it is made as its definition is.
 use borrow.Author.Needs.{needs}
-use mathlib.Core.Path.{refl, ap, ap₂, _∙_}
+use mathlib.Core.Path.{ap, ap₂, _∙_}
 use mir.Facts.{toZ-ofZ}
-use Rattle.commands.specs.declared.asked.Command.the-variants.{Drive}
-use Rattle.commands.specs.Commands.{_orElse_, unless}
+use Rattle.commands.specs.declared.Command.the-variants.{Drive}
+use Rattle.commands.specs.Commands.{unless}
 use Rattle.commands.proofs.parsing.drive.Statement.{statement}
 use Rattle.commands.proofs.parsing.drive.Tie as tie
 
-count-requires : tie.Need-count-requires
-count-requires c κs = search needs
-
-is-narrow-requires : tie.Need-is-narrow-requires
-is-narrow-requires c κs = search needs
-
-or-else-requires : tie.Need-or-else-requires
-or-else-requires c κs = search needs
+are-numbers-requires : tie.Need-are-numbers-requires
+are-numbers-requires c κs = search needs
 
 narrow-at-requires : tie.Need-narrow-at-requires
 narrow-at-requires c κs = search needs
@@ -24,20 +18,9 @@ unless-faulty-requires c κs = search needs
 
 returns : tie.Need-returns
 returns c =
-    let read = c .before in
-    let found = read .before in
-    let number = found .before in
-    c .unless-faulty .ensures
-    ∙ ap₂ unless (found .or-else .ensures ∙ ap₂ _orElse_ (number .before .count .ensures) (number .is-narrow .ensures))
-    (ap Drive (toZ-ofZ (record { sfits = read .narrow-at .ok }) ∙ read .narrow-at .ensures))
+    let x = c .before in
+    c .unless-faulty .ensures ∙ ap₂ unless (x .before .are-numbers .ensures) (ap Drive (toZ-ofZ (record { sfits = x .narrow-at .ok }) ∙ x .narrow-at .ensures))
 
 pub drive-spec : {M : Type 1} → statement M
 drive-spec =
-    tie.close
-    (tie.spec
-    count-requires
-    is-narrow-requires
-    or-else-requires
-    narrow-at-requires
-    unless-faulty-requires
-    returns)
+    tie.close (tie.spec are-numbers-requires narrow-at-requires unless-faulty-requires returns)

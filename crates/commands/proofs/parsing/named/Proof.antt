@@ -6,9 +6,9 @@ use mathlib.Core.List.{List, []}
 use denote.Ref.{now}
 use lib.ListN.{drop, getD}
 use Rattle.words.specs.Words.{wordsAfter, wordsOf, partOf}
-use Rattle.commands.specs.declared.asked.Command.{Command}
-use Rattle.commands.specs.declared.asked.Command.the-variants.{Wrong}
-use Rattle.commands.specs.declared.asked.Fault.the-variants.{NoCommand}
+use Rattle.commands.specs.declared.Command.{Command}
+use Rattle.commands.specs.declared.Command.the-variants.{Wrong}
+use Rattle.commands.specs.declared.Fault.the-variants.{NoCommand}
 use Rattle.commands.specs.Commands.{commandTable, asked}
 use Rattle.commands.specs.Choosing.{placeOf, namesOf, commandsOf, chosen-at, none-chosen}
 use Rattle.commands.proofs.parsing.named.Statement.{statement}

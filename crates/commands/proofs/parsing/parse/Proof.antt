@@ -9,8 +9,8 @@ use denote.Ref.{now}
 use lib.ListN.{length}
 use Rattle.words.specs.Words.{wordsOf}
 use Rattle.words.specs.Walk.{a-word, no-word}
-use Rattle.commands.specs.declared.asked.Command.{Command}
-use Rattle.commands.specs.declared.asked.Command.the-variants.{Nothing}
+use Rattle.commands.specs.declared.Command.{Command}
+use Rattle.commands.specs.declared.Command.the-variants.{Nothing}
 use Rattle.commands.specs.Commands.{isComment, byWords, commandOf}
 use Rattle.commands.proofs.parsing.parse.Statement.{statement}
 use Rattle.commands.proofs.parsing.parse.Tie as tie

@@ -1,8 +1,6 @@
 -- `commands::parsing::show` meets its contract: it is made as its definition is.
 use borrow.Author.Needs.{needs}
-use mathlib.Core.Path.{refl, ap, ap₂, _∙_}
-use mir.Facts.{toZ-ofZ}
-use Rattle.commands.specs.declared.asked.Command.the-variants.{Show}
+use mathlib.Core.Path.{ap, ap₂, _∙_}
 use Rattle.commands.specs.Commands.{unless, shownOf}
 use Rattle.commands.proofs.parsing.show.Statement.{statement}
 use Rattle.commands.proofs.parsing.show.Tie as tie
