@@ -1,6 +1,10 @@
 // Calls of the libraries with what the workbench never gives them, or whose answer it does not show. It prints a line for each: the function, what it was given, and
-// what it answered.
+// what it answered. Every line, or part of one, is a template that is filled in and written at once.
+use answers::Signed;
+use curve::Value;
 use drive::Answer;
+use drive::Driven;
+use position::Place;
 use rules::Refusal;
 use words::Word;
 
@@ -10,246 +14,232 @@ const VALUES: [i32; 3] = [7, 9, 9];
 
 const SLOPES: [i32; 3] = [256, 0, 0];
 
+// Positions in that table and outside.
+const POSITIONS: [i32; 5] = [0, 2, 5, 6, -1];
+
 // Values with which the first piece bends.
 const BEND: [i32; 3] = [9, 7, 7];
 
 fn main() {
-    let mut space = [0u8; 2048];
-    let out: &mut [u8] = &mut space;
-    let n = quotients(out, 0);
-    let n = finds(out, n);
-    let n = next_words(out, n);
-    let n = parts(out, n);
-    let n = reads(out, n);
-    let n = buffers(out, n);
-    let n = accepted(out, n);
-    let n = refusals(out, n);
-    if !io::write_all(libc::STDOUT_FILENO, words::part(out, 0, n)) {
-        os::fail(b"calls: standard output");
-    }
+    quotients();
+    finds(b"abc");
+    next_words();
+    counts(b"ab c");
+    parts(b"abc");
+    reads();
+    buffers();
+    tables(&KNOTS, &VALUES, &SLOPES);
+    at(&KNOTS, &BEND, &SLOPES, 3);
 }
 
 // ---- integers
 
-fn quotients(out: &mut [u8], held: usize) -> usize {
-    let n = quotient(out, held, 7, 1);
-    let n = quotient(out, n, 7, 0);
-    let n = quotient(out, n, -7, 0);
-    let n = quotient(out, n, 7, -2);
-    let n = quotient(out, n, -1, 4);
-    let n = quotient(out, n, -9, 4);
-    let n = quotient(out, n, -9223372036854775808, 1);
-    quotient(out, n, -9223372036854775808, -1)
+fn quotients() {
+    quotient(7, 1);
+    quotient(7, 0);
+    quotient(-7, 0);
+    quotient(7, -2);
+    quotient(-1, 4);
+    quotient(-9, 4);
+    quotient(-9223372036854775808, 1);
+    quotient(-9223372036854775808, -1);
 }
 
-fn quotient(out: &mut [u8], held: usize, n: i64, d: i64) -> usize {
-    let k = words::append(out, held, b"floor_div ");
-    let k = number(out, k, n);
-    let k = number(out, k, d);
-    last(out, k, integers::floor_div(n, d))
+fn quotient(n: i64, d: i64) {
+    let q = integers::floor_div(n, d);
+    numbers(
+        b"floor_div # # #\n",
+        answers::whole(n),
+        answers::whole(d),
+        answers::whole(q),
+    );
 }
 
 // ---- words and decimals
 
-fn finds(out: &mut [u8], held: usize) -> usize {
-    let n = found(out, held, b"abc", 0, 99);
-    let n = found(out, n, b"abc", 0, 120);
-    found(out, n, b"abc", 5, 97)
+fn finds(bytes: &[u8]) {
+    found(bytes, 0, 99);
+    found(bytes, 0, 120);
+    found(bytes, 5, 97);
 }
 
-fn next_words(out: &mut [u8], held: usize) -> usize {
-    let n = word(out, held, b"ab", 0);
-    let n = word(out, n, b" ab c", 2);
-    let n = word(out, n, b"ab ", 2);
-    let n = counted(out, n, b"ab c", 0);
-    let n = counted(out, n, b"ab c", 1);
-    counted(out, n, b"ab c", 9)
+fn next_words() {
+    word(b"ab", 0);
+    word(b" ab c", 2);
+    word(b"ab ", 2);
 }
 
-fn parts(out: &mut [u8], held: usize) -> usize {
-    let n = part(out, held, b"abc", 1, 2);
-    let n = part(out, n, b"abc", 1, 4);
-    let n = part(out, n, b"abc", 1, 9);
-    let n = part(out, n, b"abc", 2, 1);
-    part(out, n, b"abc", 5, 7)
+fn counts(line: &[u8]) {
+    counted(line, 0);
+    counted(line, 1);
+    counted(line, 9);
 }
 
-fn reads(out: &mut [u8], held: usize) -> usize {
-    let n = read(out, held, b"");
-    read(out, n, b"-")
+fn parts(line: &[u8]) {
+    part(line, 1, 2);
+    part(line, 1, 4);
+    part(line, 1, 9);
+    part(line, 2, 1);
+    part(line, 5, 7);
 }
 
-fn found(out: &mut [u8], held: usize, bytes: &[u8], from: usize, byte: u8) -> usize {
-    let n = text(out, held, b"find '", bytes);
-    let n = natural(out, n, from);
-    let n = natural(out, n, byte as usize);
-    last_natural(out, n, words::find(bytes, from, byte))
-}
-
-fn word(out: &mut [u8], held: usize, line: &[u8], from: usize) -> usize {
-    let n = text(out, held, b"next_word '", line);
-    let n = natural(out, n, from);
-    match words::next_word(line, from) {
-        Word::At { start, end } => {
-            let n = natural(out, n, start);
-            last_natural(out, n, end)
-        }
-        Word::Nothing => words::append(out, n, b"nothing\n"),
-    }
-}
-
-fn counted(out: &mut [u8], held: usize, line: &[u8], from: usize) -> usize {
-    let n = text(out, held, b"count '", line);
-    let n = natural(out, n, from);
-    last_natural(out, n, words::count(line, from))
-}
-
-fn part(out: &mut [u8], held: usize, line: &[u8], start: usize, end: usize) -> usize {
-    let n = text(out, held, b"part '", line);
-    let n = natural(out, n, start);
-    let n = natural(out, n, end);
-    let n = words::append(out, n, words::part(line, start, end));
-    words::append(out, n, b"\n")
-}
-
-fn read(out: &mut [u8], held: usize, digits: &[u8]) -> usize {
-    let n = text(out, held, b"whole '", digits);
-    match decimals::whole(digits) {
-        decimals::Number::Is(is) => last(out, n, is),
-        decimals::Number::NotDecimal => words::append(out, n, b"no number\n"),
-        decimals::Number::TooLarge => words::append(out, n, b"too large\n"),
-    }
+fn reads() {
+    read(b"");
+    read(b"-");
 }
 
 // A buffer of four bytes, of which so many are held, and three more.
-fn buffers(out: &mut [u8], held: usize) -> usize {
-    let n = appended(out, held, 0);
-    let n = appended(out, n, 1);
-    let n = appended(out, n, 2);
-    let n = appended(out, n, 3);
-    let n = appended(out, n, 4);
-    appended(out, n, 6)
+fn buffers() {
+    appended(0);
+    appended(1);
+    appended(2);
+    appended(3);
+    appended(4);
+    appended(6);
 }
 
-fn appended(out: &mut [u8], held: usize, first: usize) -> usize {
+fn found(bytes: &[u8], from: usize, byte: u8) {
+    naturals(
+        b"find '$' # # #\n",
+        bytes,
+        from,
+        byte as usize,
+        words::find(bytes, from, byte),
+    );
+}
+
+fn word(line: &[u8], from: usize) {
+    match words::next_word(line, from) {
+        Word::At { start, end } => naturals(b"next_word '$' # # #\n", line, from, start, end),
+        Word::Nothing => naturals(b"next_word '$' # nothing\n", line, from, 0, 0),
+    }
+}
+
+fn counted(line: &[u8], from: usize) {
+    naturals(b"count '$' # #\n", line, from, words::count(line, from), 0);
+}
+
+fn part(line: &[u8], start: usize, end: usize) {
+    naturals(b"part '$' # # ", line, start, end, 0);
+    text(b"$\n", words::part(line, start, end));
+}
+
+fn read(digits: &[u8]) {
+    match decimals::whole(digits) {
+        decimals::Number::Is(n) => {
+            let n = answers::whole(n);
+            write(b"whole '$' #\n", digits, n, n, n)
+        }
+        decimals::Number::NotDecimal => text(b"whole '$' no number\n", digits),
+        decimals::Number::TooLarge => text(b"whole '$' too large\n", digits),
+    }
+}
+
+fn appended(held: usize) {
     let mut four = [46u8; 4];
-    let into: &mut [u8] = &mut four;
-    let stand = words::append(into, first, b"abc");
-    let n = text(out, held, b"append '", into);
-    let n = natural(out, n, first);
-    last_natural(out, n, stand)
+    let n = words::append(&mut four, held, b"abc");
+    naturals(b"append '$' # #\n", &four, held, n, 0);
 }
 
 // ---- a table that is accepted, at positions in it and outside, and with values that it is refused for
 
-fn accepted(out: &mut [u8], held: usize) -> usize {
-    let n = checked(out, held);
-    let n = at(out, n, &VALUES, 0);
-    let n = at(out, n, &VALUES, 2);
-    at(out, n, &VALUES, 5)
+fn tables(knots: &[i32], values: &[i32], slopes: &[i32]) {
+    given(b"points", table::points(knots, values, slopes));
+    given(b"check", table::check(knots, values, slopes));
+    at_each(knots, values, slopes, &POSITIONS);
 }
 
-fn refusals(out: &mut [u8], held: usize) -> usize {
-    let n = at(out, held, &VALUES, 6);
-    let n = at(out, n, &VALUES, -1);
-    at(out, n, &BEND, 3)
+fn given(name: &[u8], refusal: Refusal) {
+    naturals(b"$ # # \n", name, refusal.number as usize, refusal.place, 0);
 }
 
-fn checked(out: &mut [u8], held: usize) -> usize {
-    let points = table::points(&KNOTS, &VALUES, &SLOPES);
-    let n = answered(out, held, b"points ", points);
-    let check = table::check(&KNOTS, &VALUES, &SLOPES);
-    answered(out, n, b"check ", check)
+// What is answered at each of these positions.
+fn at_each(knots: &[i32], values: &[i32], slopes: &[i32], positions: &[i32]) {
+    let mut i = 0;
+    while i < positions.len() {
+        at(knots, values, slopes, positions[i]);
+        i += 1;
+    }
 }
 
-fn answered(out: &mut [u8], held: usize, name: &[u8], given: Refusal) -> usize {
-    let n = words::append(out, held, name);
-    let n = refusal(out, n, given);
-    words::append(out, n, b"\n")
+fn at(knots: &[i32], values: &[i32], slopes: &[i32], position: i32) {
+    located(position, position::locate(knots, values, slopes, position));
+    valued(position, curve::evaluate(knots, values, slopes, position));
+    driven(
+        position,
+        drive::float_answer(knots, values, slopes, position),
+    );
 }
 
-// What is answered at a position, with these values.
-fn at(out: &mut [u8], held: usize, values: &[i32], position: i32) -> usize {
-    let n = located(out, held, values, position);
-    let n = valued(out, n, values, position);
-    driven(out, n, values, position)
+fn located(position: i32, place: Place) {
+    answered(b"locate # # # ", position, place.refusal);
+    one(b"#\n", number(place.piece));
 }
 
-fn located(out: &mut [u8], held: usize, values: &[i32], position: i32) -> usize {
-    let n = words::append(out, held, b"locate ");
-    let n = number32(out, n, position);
-    let place = position::locate(&KNOTS, values, &SLOPES, position);
-    let n = refusal(out, n, place.refusal);
-    last_natural(out, n, place.piece)
+fn valued(position: i32, value: Value) {
+    answered(b"evaluate # # # ", position, value.refusal);
+    one(b"# \n", whole32(value.value));
 }
 
-fn valued(out: &mut [u8], held: usize, values: &[i32], position: i32) -> usize {
-    let n = words::append(out, held, b"evaluate ");
-    let n = number32(out, n, position);
-    let value = curve::evaluate(&KNOTS, values, &SLOPES, position);
-    let n = refusal(out, n, value.refusal);
-    let n = number32(out, n, value.value);
-    words::append(out, n, b"\n")
-}
-
-fn driven(out: &mut [u8], held: usize, values: &[i32], position: i32) -> usize {
-    let n = words::append(out, held, b"float_answer ");
-    let n = number32(out, n, position);
-    let driven = drive::float_answer(&KNOTS, values, &SLOPES, position);
-    let n = refusal(out, n, driven.refusal);
+fn driven(position: i32, driven: Driven) {
+    answered(b"float_answer # # # ", position, driven.refusal);
     let answer = driven.answer;
     match answer {
-        Answer::Dwell(level) => dwell(out, n, level),
-        Answer::Move(_) => words::append(out, n, b"move\n"),
+        Answer::Dwell(level) => dwell(level),
+        Answer::Move(_) => one(b"move\n", number(0)),
     }
 }
 
 // At 0 with its sign: −0 is no less than 0, but 1 over it is.
-fn dwell(out: &mut [u8], held: usize, level: f64) -> usize {
+fn dwell(level: f64) {
     if level != 0.0 {
-        return words::append(out, held, b"dwell\n");
+        one(b"dwell\n", number(0));
+        return;
     }
-    if 1.0 / level < 0.0 {
-        return words::append(out, held, b"dwell at -0\n");
+    let negative = 1.0 / level < 0.0;
+    one(b"dwell at #\n", Signed { negative, size: 0 });
+}
+
+// What every answer at a position begins with: the position, and the refusal's number and place.
+fn answered(template: &[u8], position: i32, refusal: Refusal) {
+    numbers(
+        template,
+        whole32(position),
+        number(refusal.number as usize),
+        number(refusal.place),
+    );
+}
+
+// ---- what is written
+
+fn one(template: &[u8], n: Signed) {
+    numbers(template, n, n, n);
+}
+
+fn numbers(template: &[u8], first: Signed, second: Signed, third: Signed) {
+    write(template, b"", first, second, third);
+}
+
+fn text(template: &[u8], text: &[u8]) {
+    naturals(template, text, 0, 0, 0);
+}
+
+fn naturals(template: &[u8], text: &[u8], first: usize, second: usize, third: usize) {
+    write(template, text, number(first), number(second), number(third));
+}
+
+fn number(n: usize) -> Signed {
+    answers::natural(n as u64)
+}
+
+fn whole32(n: i32) -> Signed {
+    answers::whole(n as i64)
+}
+
+fn write(template: &[u8], text: &[u8], first: Signed, second: Signed, third: Signed) {
+    let mut space = [0u8; 256];
+    let n = answers::fill(&mut space, 0, template, text, first, second, third);
+    if !io::write_all(libc::STDOUT_FILENO, words::part(&space, 0, n)) {
+        os::fail(b"calls: standard output");
     }
-    words::append(out, held, b"dwell at 0\n")
-}
-
-// ---- a line's words
-
-fn refusal(out: &mut [u8], held: usize, refusal: Refusal) -> usize {
-    let n = natural(out, held, refusal.number as usize);
-    natural(out, n, refusal.place)
-}
-
-// a function's name and the bytes that it was given
-fn text(out: &mut [u8], held: usize, name: &[u8], bytes: &[u8]) -> usize {
-    let n = words::append(out, held, name);
-    let n = words::append(out, n, bytes);
-    words::append(out, n, b"' ")
-}
-
-fn number(out: &mut [u8], held: usize, n: i64) -> usize {
-    let k = decimals::append_whole(out, held, n);
-    words::append(out, k, b" ")
-}
-
-fn number32(out: &mut [u8], held: usize, n: i32) -> usize {
-    let k = decimals::append_whole32(out, held, n);
-    words::append(out, k, b" ")
-}
-
-fn natural(out: &mut [u8], held: usize, n: usize) -> usize {
-    let k = decimals::append_natural(out, held, n as u64);
-    words::append(out, k, b" ")
-}
-
-fn last(out: &mut [u8], held: usize, n: i64) -> usize {
-    let k = decimals::append_whole(out, held, n);
-    words::append(out, k, b"\n")
-}
-
-fn last_natural(out: &mut [u8], held: usize, n: usize) -> usize {
-    let k = decimals::append_natural(out, held, n as u64);
-    words::append(out, k, b"\n")
 }
