@@ -2,6 +2,7 @@
 // what it answered. Every line, or part of one, is a template that is filled in and written at once.
 use answers::Signed;
 use curve::Value;
+use decimals::Number;
 use drive::Answer;
 use drive::Driven;
 use position::Place;
@@ -22,14 +23,13 @@ const BEND: [i32; 3] = [9, 7, 7];
 
 fn main() {
     quotients();
-    finds(b"abc");
+    searches(b"abc");
     next_words();
     counts(b"ab c");
     parts(b"abc");
     reads();
-    buffers();
-    tables(&KNOTS, &VALUES, &SLOPES);
-    at(&KNOTS, &BEND, &SLOPES, 3);
+    buffers(b"abc");
+    tables(&KNOTS, &VALUES, &SLOPES, &BEND);
 }
 
 // ---- integers
@@ -46,18 +46,12 @@ fn quotients() {
 }
 
 fn quotient(n: i64, d: i64) {
-    let q = integers::floor_div(n, d);
-    numbers(
-        b"floor_div # # #\n",
-        answers::whole(n),
-        answers::whole(d),
-        answers::whole(q),
-    );
+    wholes(b"floor_div # # #\n", n, d, integers::floor_div(n, d));
 }
 
 // ---- words and decimals
 
-fn finds(bytes: &[u8]) {
+fn searches(bytes: &[u8]) {
     found(bytes, 0, 99);
     found(bytes, 0, 120);
     found(bytes, 5, 97);
@@ -88,18 +82,18 @@ fn reads() {
     read(b"-");
 }
 
-// A buffer of four bytes, of which so many are held, and three more.
-fn buffers() {
-    appended(0);
-    appended(1);
-    appended(2);
-    appended(3);
-    appended(4);
-    appended(6);
+// A buffer of four bytes, of which so many are held, and more behind them.
+fn buffers(more: &[u8]) {
+    appended(0, more);
+    appended(1, more);
+    appended(2, more);
+    appended(3, more);
+    appended(4, more);
+    appended(6, more);
 }
 
 fn found(bytes: &[u8], from: usize, byte: u8) {
-    naturals(
+    with_text(
         b"find '$' # # #\n",
         bytes,
         from,
@@ -110,47 +104,50 @@ fn found(bytes: &[u8], from: usize, byte: u8) {
 
 fn word(line: &[u8], from: usize) {
     match words::next_word(line, from) {
-        Word::At { start, end } => naturals(b"next_word '$' # # #\n", line, from, start, end),
-        Word::Nothing => naturals(b"next_word '$' # nothing\n", line, from, 0, 0),
+        Word::At { start, end } => with_text(b"next_word '$' # # #\n", line, from, start, end),
+        Word::Nothing => with_text(b"next_word '$' # nothing\n", line, from, 0, 0),
     }
 }
 
 fn counted(line: &[u8], from: usize) {
-    naturals(b"count '$' # #\n", line, from, words::count(line, from), 0);
+    with_text(b"count '$' # #\n", line, from, words::count(line, from), 0);
 }
 
 fn part(line: &[u8], start: usize, end: usize) {
-    naturals(b"part '$' # # ", line, start, end, 0);
-    text(b"$\n", words::part(line, start, end));
+    with_text(b"part '$' # # ", line, start, end, 0);
+    with_text(b"$\n", words::part(line, start, end), 0, 0, 0);
 }
 
 fn read(digits: &[u8]) {
-    match decimals::whole(digits) {
-        decimals::Number::Is(n) => {
-            let n = answers::whole(n);
-            write(b"whole '$' #\n", digits, n, n, n)
-        }
-        decimals::Number::NotDecimal => text(b"whole '$' no number\n", digits),
-        decimals::Number::TooLarge => text(b"whole '$' too large\n", digits),
+    with_text(b"whole '$' ", digits, 0, 0, 0);
+    said(decimals::whole(digits));
+}
+
+fn said(number: Number) {
+    match number {
+        Number::Is(n) => wholes(b"#\n", n, 0, 0),
+        Number::NotDecimal => wholes(b"no number\n", 0, 0, 0),
+        Number::TooLarge => wholes(b"too large\n", 0, 0, 0),
     }
 }
 
-fn appended(held: usize) {
+fn appended(held: usize, more: &[u8]) {
     let mut four = [46u8; 4];
-    let n = words::append(&mut four, held, b"abc");
-    naturals(b"append '$' # #\n", &four, held, n, 0);
+    let n = words::append(&mut four, held, more);
+    with_text(b"append '$' # #\n", &four, held, n, 0);
 }
 
 // ---- a table that is accepted, at positions in it and outside, and with values that it is refused for
 
-fn tables(knots: &[i32], values: &[i32], slopes: &[i32]) {
-    given(b"points", table::points(knots, values, slopes));
-    given(b"check", table::check(knots, values, slopes));
+fn tables(knots: &[i32], values: &[i32], slopes: &[i32], bend: &[i32]) {
+    given(b"points # # \n", table::points(knots, values, slopes));
+    given(b"check # # \n", table::check(knots, values, slopes));
     at_each(knots, values, slopes, &POSITIONS);
+    at(knots, bend, slopes, 3);
 }
 
-fn given(name: &[u8], refusal: Refusal) {
-    naturals(b"$ # # \n", name, refusal.number as usize, refusal.place, 0);
+fn given(template: &[u8], refusal: Refusal) {
+    naturals(template, refusal.number as usize, refusal.place, 0);
 }
 
 // What is answered at each of these positions.
@@ -162,84 +159,103 @@ fn at_each(knots: &[i32], values: &[i32], slopes: &[i32], positions: &[i32]) {
     }
 }
 
+// The refusal's number and place stand behind the position, and then what is answered.
 fn at(knots: &[i32], values: &[i32], slopes: &[i32], position: i32) {
-    located(position, position::locate(knots, values, slopes, position));
-    valued(position, curve::evaluate(knots, values, slopes, position));
-    driven(
-        position,
-        drive::float_answer(knots, values, slopes, position),
+    whole32(b"locate # ", position);
+    located(position::locate(knots, values, slopes, position));
+    whole32(b"evaluate # ", position);
+    valued(curve::evaluate(knots, values, slopes, position));
+    whole32(b"float_answer # ", position);
+    driven(drive::float_answer(knots, values, slopes, position));
+}
+
+fn located(place: Place) {
+    naturals(
+        b"# # #\n",
+        place.refusal.number as usize,
+        place.refusal.place,
+        place.piece,
     );
 }
 
-fn located(position: i32, place: Place) {
-    answered(b"locate # # # ", position, place.refusal);
-    one(b"#\n", number(place.piece));
+fn valued(value: Value) {
+    naturals(
+        b"# # ",
+        value.refusal.number as usize,
+        value.refusal.place,
+        0,
+    );
+    whole32(b"# \n", value.value);
 }
 
-fn valued(position: i32, value: Value) {
-    answered(b"evaluate # # # ", position, value.refusal);
-    one(b"# \n", whole32(value.value));
-}
-
-fn driven(position: i32, driven: Driven) {
-    answered(b"float_answer # # # ", position, driven.refusal);
+fn driven(driven: Driven) {
     let answer = driven.answer;
-    match answer {
-        Answer::Dwell(level) => dwell(level),
-        Answer::Move(_) => one(b"move\n", number(0)),
-    }
-}
-
-// At 0 with its sign: −0 is no less than 0, but 1 over it is.
-fn dwell(level: f64) {
-    if level != 0.0 {
-        one(b"dwell\n", number(0));
-        return;
-    }
-    let negative = 1.0 / level < 0.0;
-    one(b"dwell at #\n", Signed { negative, size: 0 });
-}
-
-// What every answer at a position begins with: the position, and the refusal's number and place.
-fn answered(template: &[u8], position: i32, refusal: Refusal) {
-    numbers(
-        template,
-        whole32(position),
-        number(refusal.number as usize),
-        number(refusal.place),
+    let told = answers::entry(b"move\ndwell\ndwell at 0\ndwell at -0", kind(answer));
+    with_text(
+        b"# # $\n",
+        told,
+        driven.refusal.number as usize,
+        driven.refusal.place,
+        0,
     );
+}
+
+fn kind(answer: Answer) -> usize {
+    match answer {
+        Answer::Dwell(level) => level_kind(level),
+        Answer::Move(_) => 0,
+    }
+}
+
+// 0 has its sign: −0 is no less than 0, but 1 over it is.
+fn level_kind(level: f64) -> usize {
+    if level != 0.0 {
+        return 1;
+    }
+    if 1.0 / level < 0.0 {
+        return 3;
+    }
+    2
 }
 
 // ---- what is written
 
-fn one(template: &[u8], n: Signed) {
-    numbers(template, n, n, n);
+fn whole32(template: &[u8], n: i32) {
+    wholes(template, n as i64, 0, 0);
 }
 
-fn numbers(template: &[u8], first: Signed, second: Signed, third: Signed) {
-    write(template, b"", first, second, third);
+fn wholes(template: &[u8], first: i64, second: i64, third: i64) {
+    write(
+        template,
+        template,
+        answers::whole(first),
+        answers::whole(second),
+        answers::whole(third),
+    );
 }
 
-fn text(template: &[u8], text: &[u8]) {
-    naturals(template, text, 0, 0, 0);
+fn naturals(template: &[u8], first: usize, second: usize, third: usize) {
+    with_text(template, template, first, second, third);
 }
 
-fn naturals(template: &[u8], text: &[u8], first: usize, second: usize, third: usize) {
-    write(template, text, number(first), number(second), number(third));
-}
-
-fn number(n: usize) -> Signed {
-    answers::natural(n as u64)
-}
-
-fn whole32(n: i32) -> Signed {
-    answers::whole(n as i64)
+fn with_text(template: &[u8], text: &[u8], first: usize, second: usize, third: usize) {
+    write(
+        template,
+        text,
+        answers::natural(first as u64),
+        answers::natural(second as u64),
+        answers::natural(third as u64),
+    );
 }
 
 fn write(template: &[u8], text: &[u8], first: Signed, second: Signed, third: Signed) {
     let mut space = [0u8; 256];
     let n = answers::fill(&mut space, 0, template, text, first, second, third);
-    if !io::write_all(libc::STDOUT_FILENO, words::part(&space, 0, n)) {
+    written(words::part(&space, 0, n));
+}
+
+fn written(bytes: &[u8]) {
+    if !io::write_all(libc::STDOUT_FILENO, bytes) {
         os::fail(b"calls: standard output");
     }
 }

@@ -7,14 +7,14 @@ use borrow.Author.Needs.{needs}
 use Rattle.calls.proofs.whole32.Statement.{statement}
 use Rattle.calls.proofs.whole32.Tie as tie
 
-cast-whole : tie.Need-cast-whole
-cast-whole c = subst⁻¹ (SFits w64) (toZ-ofZ (c .fits .n)) (sfits-widen tt (c .fits .n))
+cast-wholes : tie.Need-cast-wholes
+cast-wholes c = subst⁻¹ (SFits w64) (toZ-ofZ (c .before .fits .n)) (sfits-widen tt (c .before .fits .n))
 
-whole-requires : tie.Need-whole-requires
-whole-requires c κs = search needs
+wholes-requires : tie.Need-wholes-requires
+wholes-requires c κs = search needs
 
 returns : tie.Need-returns
 returns c = search needs
 
 pub whole32-spec : {M : Type 1} → statement M
-whole32-spec = tie.close (tie.spec cast-whole whole-requires returns)
+whole32-spec = tie.close (tie.spec cast-wholes wholes-requires returns)
