@@ -23,12 +23,7 @@ const BEND: [i32; 3] = [9, 7, 7];
 
 fn main() {
     quotients();
-    searches(b"abc");
-    next_words();
-    counts(b"ab c");
-    parts(b"abc");
-    reads();
-    buffers(b"abc");
+    texts(b"abc", b"ab c");
     tables(&KNOTS, &VALUES, &SLOPES, &BEND);
 }
 
@@ -51,7 +46,16 @@ fn quotient(n: i64, d: i64) {
 
 // ---- words and decimals
 
-fn searches(bytes: &[u8]) {
+fn texts(word: &[u8], line: &[u8]) {
+    finds(word);
+    next_words();
+    counts(line);
+    parts(word);
+    reads();
+    buffers(word);
+}
+
+fn finds(bytes: &[u8]) {
     found(bytes, 0, 99);
     found(bytes, 0, 120);
     found(bytes, 5, 97);
@@ -221,7 +225,8 @@ fn level_kind(level: f64) -> usize {
 // ---- what is written
 
 fn whole32(template: &[u8], n: i32) {
-    wholes(template, n as i64, 0, 0);
+    let n = answers::whole32(n);
+    write(template, template, n, n, n);
 }
 
 fn wholes(template: &[u8], first: i64, second: i64, third: i64) {

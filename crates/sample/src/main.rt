@@ -1,4 +1,6 @@
 // The sampling program: it holds the points (0, 0) and (3, -10), builds their slopes, and prints the value of the curve at each position.
+use answers::Signed;
+
 const KNOTS: [i32; 2] = [0, 3];
 
 const VALUES: [i32; 2] = [0, -10];
@@ -12,49 +14,41 @@ fn main() {
         os::fail(b"sample: the points are refused");
         return;
     }
-    let mut space = [0u8; 256];
-    let out: &mut [u8] = &mut space;
-    let n = words::append(out, 0, b"position,value\n");
-    let n = rows(out, n, &POSITIONS, &KNOTS, &VALUES, &slopes);
-    if !io::write_all(libc::STDOUT_FILENO, words::part(out, 0, n)) {
-        os::fail(b"sample: standard output");
-    }
+    write(b"position,value\n");
+    rows(&POSITIONS, &KNOTS, &VALUES, &slopes);
 }
 
-// A row for each position, behind the `held` bytes of a text.
-fn rows(
-    out: &mut [u8],
-    held: usize,
-    positions: &[i32],
-    knots: &[i32],
-    values: &[i32],
-    slopes: &[i32],
-) -> usize {
-    let mut n = held;
+// A row for each position.
+fn rows(positions: &[i32], knots: &[i32], values: &[i32], slopes: &[i32]) {
     let mut i = 0;
     while i < positions.len() {
-        n = row(out, n, knots, values, slopes, positions[i]);
+        row(positions[i], knots, values, slopes);
         i += 1;
     }
-    n
 }
 
 // `position,value`. A position that is refused has no row.
-fn row(
-    out: &mut [u8],
-    held: usize,
-    knots: &[i32],
-    values: &[i32],
-    slopes: &[i32],
-    position: i32,
-) -> usize {
+fn row(position: i32, knots: &[i32], values: &[i32], slopes: &[i32]) {
     let at = curve::evaluate(knots, values, slopes, position);
     if at.refusal.number != rules::DONE {
         os::fail(b"sample: a position is refused");
-        return held;
+        return;
     }
-    let n = decimals::append_whole32(out, held, position);
-    let n = words::append(out, n, b",");
-    let n = decimals::append_whole32(out, n, at.value);
-    words::append(out, n, b"\n")
+    numbers(
+        b"#,#\n",
+        answers::whole32(position),
+        answers::whole32(at.value),
+    );
+}
+
+fn numbers(template: &[u8], first: Signed, second: Signed) {
+    let mut space = [0u8; 64];
+    let n = answers::fill(&mut space, 0, template, template, first, second, second);
+    write(words::part(&space, 0, n));
+}
+
+fn write(bytes: &[u8]) {
+    if !io::write_all(libc::STDOUT_FILENO, bytes) {
+        os::fail(b"sample: standard output");
+    }
 }

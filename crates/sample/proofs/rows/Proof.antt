@@ -1,16 +1,15 @@
 -- `sample::rows` is safe and ends: each turn goes one position on.
-use Prim.Native.Nat.{_-_}
-use mathlib.Core.Path.{_≡_}
+use Prim.Native.Nat.{_-_, _≤_}
 use lib.ListN.{length}
 use borrow.Author.Needs.{needs}
 use Rattle.sample.proofs.rows.Statement.{statement}
 use Rattle.sample.proofs.rows.Tie as tie
 
 abbrev Inv-loop : tie.InvT-loop
-Inv-loop out₀ held positions knots values slopes n₀ i₀ out n i = length out ≡ length out₀
+Inv-loop positions knots values slopes i₀ i = i ≤ length positions
 
 abbrev μ-loop : tie.MeasureT-loop
-μ-loop out₀ held positions knots values slopes n₀ i₀ out n i = length positions - i
+μ-loop positions knots values slopes i₀ i = length positions - i
 
 loop-holds : tie.Need-loop-holds Inv-loop μ-loop
 loop-holds c = search needs
@@ -33,9 +32,6 @@ loop-less c = search needs
 loop-again : tie.Need-loop-again Inv-loop μ-loop
 loop-again c = search needs
 
-same-length : tie.Need-same-length Inv-loop μ-loop
-same-length c = search needs
-
 returns : tie.Need-returns Inv-loop μ-loop
 returns c = search needs
 
@@ -52,5 +48,4 @@ rows-spec =
     add-i
     loop-less
     loop-again
-    same-length
     returns)
