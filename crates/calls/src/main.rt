@@ -222,7 +222,7 @@ fn level_kind(level: f64) -> usize {
     2
 }
 
-// ---- what is written
+// ---- what is written. A template that has no place for a text is handed on as the text too.
 
 fn whole32(template: &[u8], n: i32) {
     let n = answers::whole32(n);

@@ -41,6 +41,7 @@ fn row(position: i32, knots: &[i32], values: &[i32], slopes: &[i32]) {
     );
 }
 
+// The template has no place for a text, and is handed on as one.
 fn numbers(template: &[u8], first: Signed, second: Signed) {
     let mut space = [0u8; 64];
     let n = answers::fill(&mut space, 0, template, template, first, second, second);
