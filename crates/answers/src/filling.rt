@@ -39,6 +39,13 @@ pub fn whole(n: i64) -> Signed
     natural(n as u64)
 }
 
+// The same for a number of 32 bits.
+pub fn whole32(n: i32) -> Signed
+    ensures { λ r. ⌜ r ≡ wholeAs n ⌝ }
+{
+    whole(n as i64)
+}
+
 // Fills a template in behind the first `held` bytes of `into`, as far as there is room, and answers how many bytes stand there then: each `#` is the next of
 // three numbers, and nothing after the third, each `$` the text, and any other byte itself. The last step appends nothing, for a template that is empty: no more
 // bytes stand there than the buffer has.

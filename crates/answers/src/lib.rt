@@ -6,4 +6,5 @@ pub use filling::Signed;
 pub use filling::fill;
 pub use filling::natural;
 pub use filling::whole;
+pub use filling::whole32;
 pub use texts::entry;

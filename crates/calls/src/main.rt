@@ -1,6 +1,11 @@
 // Calls of the libraries with what the workbench never gives them, or whose answer it does not show. It prints a line for each: the function, what it was given, and
-// what it answered.
+// what it answered. Every line, or part of one, is a template that is filled in and written at once.
+use answers::Signed;
+use curve::Value;
+use decimals::Number;
 use drive::Answer;
+use drive::Driven;
+use position::Place;
 use rules::Refusal;
 use words::Word;
 
@@ -10,246 +15,252 @@ const VALUES: [i32; 3] = [7, 9, 9];
 
 const SLOPES: [i32; 3] = [256, 0, 0];
 
+// Positions in that table and outside.
+const POSITIONS: [i32; 5] = [0, 2, 5, 6, -1];
+
 // Values with which the first piece bends.
 const BEND: [i32; 3] = [9, 7, 7];
 
 fn main() {
-    let mut space = [0u8; 2048];
-    let out: &mut [u8] = &mut space;
-    let n = quotients(out, 0);
-    let n = finds(out, n);
-    let n = next_words(out, n);
-    let n = parts(out, n);
-    let n = reads(out, n);
-    let n = buffers(out, n);
-    let n = accepted(out, n);
-    let n = refusals(out, n);
-    if !io::write_all(libc::STDOUT_FILENO, words::part(out, 0, n)) {
-        os::fail(b"calls: standard output");
-    }
+    quotients();
+    texts(b"abc", b"ab c");
+    tables(&KNOTS, &VALUES, &SLOPES, &BEND);
 }
 
 // ---- integers
 
-fn quotients(out: &mut [u8], held: usize) -> usize {
-    let n = quotient(out, held, 7, 1);
-    let n = quotient(out, n, 7, 0);
-    let n = quotient(out, n, -7, 0);
-    let n = quotient(out, n, 7, -2);
-    let n = quotient(out, n, -1, 4);
-    let n = quotient(out, n, -9, 4);
-    let n = quotient(out, n, -9223372036854775808, 1);
-    quotient(out, n, -9223372036854775808, -1)
+fn quotients() {
+    quotient(7, 1);
+    quotient(7, 0);
+    quotient(-7, 0);
+    quotient(7, -2);
+    quotient(-1, 4);
+    quotient(-9, 4);
+    quotient(-9223372036854775808, 1);
+    quotient(-9223372036854775808, -1);
 }
 
-fn quotient(out: &mut [u8], held: usize, n: i64, d: i64) -> usize {
-    let k = words::append(out, held, b"floor_div ");
-    let k = number(out, k, n);
-    let k = number(out, k, d);
-    last(out, k, integers::floor_div(n, d))
+fn quotient(n: i64, d: i64) {
+    wholes(b"floor_div # # #\n", n, d, integers::floor_div(n, d));
 }
 
 // ---- words and decimals
 
-fn finds(out: &mut [u8], held: usize) -> usize {
-    let n = found(out, held, b"abc", 0, 99);
-    let n = found(out, n, b"abc", 0, 120);
-    found(out, n, b"abc", 5, 97)
+fn texts(word: &[u8], line: &[u8]) {
+    finds(word);
+    next_words();
+    counts(line);
+    parts(word);
+    reads();
+    buffers(word);
 }
 
-fn next_words(out: &mut [u8], held: usize) -> usize {
-    let n = word(out, held, b"ab", 0);
-    let n = word(out, n, b" ab c", 2);
-    let n = word(out, n, b"ab ", 2);
-    let n = counted(out, n, b"ab c", 0);
-    let n = counted(out, n, b"ab c", 1);
-    counted(out, n, b"ab c", 9)
+fn finds(bytes: &[u8]) {
+    found(bytes, 0, 99);
+    found(bytes, 0, 120);
+    found(bytes, 5, 97);
 }
 
-fn parts(out: &mut [u8], held: usize) -> usize {
-    let n = part(out, held, b"abc", 1, 2);
-    let n = part(out, n, b"abc", 1, 4);
-    let n = part(out, n, b"abc", 1, 9);
-    let n = part(out, n, b"abc", 2, 1);
-    part(out, n, b"abc", 5, 7)
+fn next_words() {
+    word(b"ab", 0);
+    word(b" ab c", 2);
+    word(b"ab ", 2);
 }
 
-fn reads(out: &mut [u8], held: usize) -> usize {
-    let n = read(out, held, b"");
-    read(out, n, b"-")
+fn counts(line: &[u8]) {
+    counted(line, 0);
+    counted(line, 1);
+    counted(line, 9);
 }
 
-fn found(out: &mut [u8], held: usize, bytes: &[u8], from: usize, byte: u8) -> usize {
-    let n = text(out, held, b"find '", bytes);
-    let n = natural(out, n, from);
-    let n = natural(out, n, byte as usize);
-    last_natural(out, n, words::find(bytes, from, byte))
+fn parts(line: &[u8]) {
+    part(line, 1, 2);
+    part(line, 1, 4);
+    part(line, 1, 9);
+    part(line, 2, 1);
+    part(line, 5, 7);
 }
 
-fn word(out: &mut [u8], held: usize, line: &[u8], from: usize) -> usize {
-    let n = text(out, held, b"next_word '", line);
-    let n = natural(out, n, from);
+fn reads() {
+    read(b"");
+    read(b"-");
+}
+
+// A buffer of four bytes, of which so many are held, and more behind them.
+fn buffers(more: &[u8]) {
+    appended(0, more);
+    appended(1, more);
+    appended(2, more);
+    appended(3, more);
+    appended(4, more);
+    appended(6, more);
+}
+
+fn found(bytes: &[u8], from: usize, byte: u8) {
+    with_text(
+        b"find '$' # # #\n",
+        bytes,
+        from,
+        byte as usize,
+        words::find(bytes, from, byte),
+    );
+}
+
+fn word(line: &[u8], from: usize) {
     match words::next_word(line, from) {
-        Word::At { start, end } => {
-            let n = natural(out, n, start);
-            last_natural(out, n, end)
-        }
-        Word::Nothing => words::append(out, n, b"nothing\n"),
+        Word::At { start, end } => with_text(b"next_word '$' # # #\n", line, from, start, end),
+        Word::Nothing => with_text(b"next_word '$' # nothing\n", line, from, 0, 0),
     }
 }
 
-fn counted(out: &mut [u8], held: usize, line: &[u8], from: usize) -> usize {
-    let n = text(out, held, b"count '", line);
-    let n = natural(out, n, from);
-    last_natural(out, n, words::count(line, from))
+fn counted(line: &[u8], from: usize) {
+    with_text(b"count '$' # #\n", line, from, words::count(line, from), 0);
 }
 
-fn part(out: &mut [u8], held: usize, line: &[u8], start: usize, end: usize) -> usize {
-    let n = text(out, held, b"part '", line);
-    let n = natural(out, n, start);
-    let n = natural(out, n, end);
-    let n = words::append(out, n, words::part(line, start, end));
-    words::append(out, n, b"\n")
+fn part(line: &[u8], start: usize, end: usize) {
+    with_text(b"part '$' # # ", line, start, end, 0);
+    with_text(b"$\n", words::part(line, start, end), 0, 0, 0);
 }
 
-fn read(out: &mut [u8], held: usize, digits: &[u8]) -> usize {
-    let n = text(out, held, b"whole '", digits);
-    match decimals::whole(digits) {
-        decimals::Number::Is(is) => last(out, n, is),
-        decimals::Number::NotDecimal => words::append(out, n, b"no number\n"),
-        decimals::Number::TooLarge => words::append(out, n, b"too large\n"),
+fn read(digits: &[u8]) {
+    with_text(b"whole '$' ", digits, 0, 0, 0);
+    said(decimals::whole(digits));
+}
+
+fn said(number: Number) {
+    match number {
+        Number::Is(n) => wholes(b"#\n", n, 0, 0),
+        Number::NotDecimal => wholes(b"no number\n", 0, 0, 0),
+        Number::TooLarge => wholes(b"too large\n", 0, 0, 0),
     }
 }
 
-// A buffer of four bytes, of which so many are held, and three more.
-fn buffers(out: &mut [u8], held: usize) -> usize {
-    let n = appended(out, held, 0);
-    let n = appended(out, n, 1);
-    let n = appended(out, n, 2);
-    let n = appended(out, n, 3);
-    let n = appended(out, n, 4);
-    appended(out, n, 6)
-}
-
-fn appended(out: &mut [u8], held: usize, first: usize) -> usize {
+fn appended(held: usize, more: &[u8]) {
     let mut four = [46u8; 4];
-    let into: &mut [u8] = &mut four;
-    let stand = words::append(into, first, b"abc");
-    let n = text(out, held, b"append '", into);
-    let n = natural(out, n, first);
-    last_natural(out, n, stand)
+    let n = words::append(&mut four, held, more);
+    with_text(b"append '$' # #\n", &four, held, n, 0);
 }
 
 // ---- a table that is accepted, at positions in it and outside, and with values that it is refused for
 
-fn accepted(out: &mut [u8], held: usize) -> usize {
-    let n = checked(out, held);
-    let n = at(out, n, &VALUES, 0);
-    let n = at(out, n, &VALUES, 2);
-    at(out, n, &VALUES, 5)
+fn tables(knots: &[i32], values: &[i32], slopes: &[i32], bend: &[i32]) {
+    given(b"points # # \n", table::points(knots, values, slopes));
+    given(b"check # # \n", table::check(knots, values, slopes));
+    at_each(knots, values, slopes, &POSITIONS);
+    at(knots, bend, slopes, 3);
 }
 
-fn refusals(out: &mut [u8], held: usize) -> usize {
-    let n = at(out, held, &VALUES, 6);
-    let n = at(out, n, &VALUES, -1);
-    at(out, n, &BEND, 3)
+fn given(template: &[u8], refusal: Refusal) {
+    naturals(template, refusal.number as usize, refusal.place, 0);
 }
 
-fn checked(out: &mut [u8], held: usize) -> usize {
-    let points = table::points(&KNOTS, &VALUES, &SLOPES);
-    let n = answered(out, held, b"points ", points);
-    let check = table::check(&KNOTS, &VALUES, &SLOPES);
-    answered(out, n, b"check ", check)
-}
-
-fn answered(out: &mut [u8], held: usize, name: &[u8], given: Refusal) -> usize {
-    let n = words::append(out, held, name);
-    let n = refusal(out, n, given);
-    words::append(out, n, b"\n")
-}
-
-// What is answered at a position, with these values.
-fn at(out: &mut [u8], held: usize, values: &[i32], position: i32) -> usize {
-    let n = located(out, held, values, position);
-    let n = valued(out, n, values, position);
-    driven(out, n, values, position)
-}
-
-fn located(out: &mut [u8], held: usize, values: &[i32], position: i32) -> usize {
-    let n = words::append(out, held, b"locate ");
-    let n = number32(out, n, position);
-    let place = position::locate(&KNOTS, values, &SLOPES, position);
-    let n = refusal(out, n, place.refusal);
-    last_natural(out, n, place.piece)
-}
-
-fn valued(out: &mut [u8], held: usize, values: &[i32], position: i32) -> usize {
-    let n = words::append(out, held, b"evaluate ");
-    let n = number32(out, n, position);
-    let value = curve::evaluate(&KNOTS, values, &SLOPES, position);
-    let n = refusal(out, n, value.refusal);
-    let n = number32(out, n, value.value);
-    words::append(out, n, b"\n")
-}
-
-fn driven(out: &mut [u8], held: usize, values: &[i32], position: i32) -> usize {
-    let n = words::append(out, held, b"float_answer ");
-    let n = number32(out, n, position);
-    let driven = drive::float_answer(&KNOTS, values, &SLOPES, position);
-    let n = refusal(out, n, driven.refusal);
-    let answer = driven.answer;
-    match answer {
-        Answer::Dwell(level) => dwell(out, n, level),
-        Answer::Move(_) => words::append(out, n, b"move\n"),
+// What is answered at each of these positions.
+fn at_each(knots: &[i32], values: &[i32], slopes: &[i32], positions: &[i32]) {
+    let mut i = 0;
+    while i < positions.len() {
+        at(knots, values, slopes, positions[i]);
+        i += 1;
     }
 }
 
-// At 0 with its sign: −0 is no less than 0, but 1 over it is.
-fn dwell(out: &mut [u8], held: usize, level: f64) -> usize {
+// The refusal's number and place stand behind the position, and then what is answered.
+fn at(knots: &[i32], values: &[i32], slopes: &[i32], position: i32) {
+    whole32(b"locate # ", position);
+    located(position::locate(knots, values, slopes, position));
+    whole32(b"evaluate # ", position);
+    valued(curve::evaluate(knots, values, slopes, position));
+    whole32(b"float_answer # ", position);
+    driven(drive::float_answer(knots, values, slopes, position));
+}
+
+fn located(place: Place) {
+    naturals(
+        b"# # #\n",
+        place.refusal.number as usize,
+        place.refusal.place,
+        place.piece,
+    );
+}
+
+fn valued(value: Value) {
+    naturals(
+        b"# # ",
+        value.refusal.number as usize,
+        value.refusal.place,
+        0,
+    );
+    whole32(b"# \n", value.value);
+}
+
+fn driven(driven: Driven) {
+    let answer = driven.answer;
+    let told = answers::entry(b"move\ndwell\ndwell at 0\ndwell at -0", kind(answer));
+    with_text(
+        b"# # $\n",
+        told,
+        driven.refusal.number as usize,
+        driven.refusal.place,
+        0,
+    );
+}
+
+fn kind(answer: Answer) -> usize {
+    match answer {
+        Answer::Dwell(level) => level_kind(level),
+        Answer::Move(_) => 0,
+    }
+}
+
+// 0 has its sign: −0 is no less than 0, but 1 over it is.
+fn level_kind(level: f64) -> usize {
     if level != 0.0 {
-        return words::append(out, held, b"dwell\n");
+        return 1;
     }
     if 1.0 / level < 0.0 {
-        return words::append(out, held, b"dwell at -0\n");
+        return 3;
     }
-    words::append(out, held, b"dwell at 0\n")
+    2
 }
 
-// ---- a line's words
+// ---- what is written. A template that has no place for a text is handed on as the text too.
 
-fn refusal(out: &mut [u8], held: usize, refusal: Refusal) -> usize {
-    let n = natural(out, held, refusal.number as usize);
-    natural(out, n, refusal.place)
+fn whole32(template: &[u8], n: i32) {
+    let n = answers::whole32(n);
+    write(template, template, n, n, n);
 }
 
-// a function's name and the bytes that it was given
-fn text(out: &mut [u8], held: usize, name: &[u8], bytes: &[u8]) -> usize {
-    let n = words::append(out, held, name);
-    let n = words::append(out, n, bytes);
-    words::append(out, n, b"' ")
+fn wholes(template: &[u8], first: i64, second: i64, third: i64) {
+    write(
+        template,
+        template,
+        answers::whole(first),
+        answers::whole(second),
+        answers::whole(third),
+    );
 }
 
-fn number(out: &mut [u8], held: usize, n: i64) -> usize {
-    let k = decimals::append_whole(out, held, n);
-    words::append(out, k, b" ")
+fn naturals(template: &[u8], first: usize, second: usize, third: usize) {
+    with_text(template, template, first, second, third);
 }
 
-fn number32(out: &mut [u8], held: usize, n: i32) -> usize {
-    let k = decimals::append_whole32(out, held, n);
-    words::append(out, k, b" ")
+fn with_text(template: &[u8], text: &[u8], first: usize, second: usize, third: usize) {
+    write(
+        template,
+        text,
+        answers::natural(first as u64),
+        answers::natural(second as u64),
+        answers::natural(third as u64),
+    );
 }
 
-fn natural(out: &mut [u8], held: usize, n: usize) -> usize {
-    let k = decimals::append_natural(out, held, n as u64);
-    words::append(out, k, b" ")
+fn write(template: &[u8], text: &[u8], first: Signed, second: Signed, third: Signed) {
+    let mut space = [0u8; 256];
+    let n = answers::fill(&mut space, 0, template, text, first, second, third);
+    written(words::part(&space, 0, n));
 }
 
-fn last(out: &mut [u8], held: usize, n: i64) -> usize {
-    let k = decimals::append_whole(out, held, n);
-    words::append(out, k, b"\n")
-}
-
-fn last_natural(out: &mut [u8], held: usize, n: usize) -> usize {
-    let k = decimals::append_natural(out, held, n as u64);
-    words::append(out, k, b"\n")
+fn written(bytes: &[u8]) {
+    if !io::write_all(libc::STDOUT_FILENO, bytes) {
+        os::fail(b"calls: standard output");
+    }
 }

@@ -48,6 +48,7 @@ use Rattle.decimals.proofs.append_whole.Reads as decimals·append_whole
 use Rattle.decimals.proofs.append_whole32.Reads as decimals·append_whole32
 use Rattle.answers.proofs.natural.Reads as answers·natural
 use Rattle.answers.proofs.whole.Reads as answers·whole
+use Rattle.answers.proofs.whole32.Reads as answers·whole32
 use Rattle.answers.proofs.fill.Reads as answers·fill
 use Rattle.answers.proofs.entry.Reads as answers·entry
 use Rattle.lines.proofs.take.Reads as lines·take
@@ -214,6 +215,9 @@ answers·natural-tied = (λ κs a. tt, λ κs a r s x y p q. p ∙ sym q)
 
 pub answers·whole-tied : Tied answers·whole.Pre answers·whole.Post result
 answers·whole-tied = (λ κs a. tt, λ κs a r s x y p q. p ∙ sym q)
+
+pub answers·whole32-tied : Tied answers·whole32.Pre answers·whole32.Post result
+answers·whole32-tied = (λ κs a. tt, λ κs a r s x y p q. p ∙ sym q)
 
 pub answers·fill-tied : Tied answers·fill.Pre answers·fill.Post with-first
 answers·fill-tied = (λ κs a. tt, λ κs a r s x y p q. λ i. (one-count p q i, one-buffer p q i))

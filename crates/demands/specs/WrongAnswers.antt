@@ -14,6 +14,7 @@ use Rattle.answers.specs.Texts.{entryOf}
 use Rattle.demands.specs.Refuting.{lists-differ}
 use Rattle.answers.proofs.natural.Reads as answers·natural
 use Rattle.answers.proofs.whole.Reads as answers·whole
+use Rattle.answers.proofs.whole32.Reads as answers·whole32
 use Rattle.answers.proofs.fill.Reads as answers·fill
 use Rattle.answers.proofs.entry.Reads as answers·entry
 
@@ -73,6 +74,23 @@ whole-minus-zero p = lists-differ tt (ap sign-and-size p)
 -- −9223372036854775808 is 9223372036854775808 in size, and not one less, as the greatest number is
 pub least-whole-too-small : whole (negsuc 9223372036854775807) true 9223372036854775807 → ⊥
 least-whole-too-small p = lists-differ tt (ap sign-and-size p)
+
+-- ---- answers::whole32
+
+abbrev whole32 : ℤ → (negative : Bool) (size : ℕ) → Type 0
+whole32 n negative size = answers·whole32.Post tt (n, tt) (record { negative = negative; size = size }) (n, tt)
+
+-- −5 is not 5
+pub whole32-without-its-sign : whole32 (negsuc 4) false 5 → ⊥
+whole32-without-its-sign p = lists-differ tt (ap sign-and-size p)
+
+-- −1 is not its bits, 4294967295
+pub whole32-as-its-bits : whole32 (negsuc 0) false 4294967295 → ⊥
+whole32-as-its-bits p = lists-differ tt (ap sign-and-size p)
+
+-- −2147483648 is 2147483648 in size, and not one less
+pub least-whole32-too-small : whole32 (negsuc 2147483647) true 2147483647 → ⊥
+least-whole32-too-small p = lists-differ tt (ap sign-and-size p)
 
 -- ---- answers::fill
 
@@ -181,6 +199,7 @@ last-entry-for-none p = lists-differ tt (ap integers p)
 
 pub record RightAnswers : Type 0 where
   pub five : natural 5 false 5
+  pub least32 : whole32 (negsuc 2147483647) true 2147483648
   pub least : whole (negsuc 9223372036854775807) true 9223372036854775808
   -- `#,#`, `####`, `$!` and an empty template
   pub two-numbers : fill (46 ∷ 46 ∷ 46 ∷ 46 ∷ []) 0 (35 ∷ 44 ∷ 35 ∷ []) [] (55 ∷ 44 ∷ 45 ∷ 48 ∷ []) 4
@@ -195,6 +214,7 @@ unfolding filled spelled entryOf front
 right-answers =
     record {
       five = refl;
+      least32 = refl;
       least = refl;
       two-numbers = record { counted = refl; buffer = refl };
       four-places = record { counted = refl; buffer = refl };

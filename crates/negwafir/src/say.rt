@@ -71,11 +71,7 @@ pub fn value(v: curve::Value) -> bool {
     if v.refusal.number != rules::DONE {
         return refused(v.refusal);
     }
-    number(v.value)
-}
-
-fn number(n: i32) -> bool {
-    line(b"#\n", b"", answers::whole(n as i64), NONE, NONE)
+    line(b"#\n", b"", answers::whole32(v.value), NONE, NONE)
 }
 
 // `dwell L` or `move L N D`, or the refusal.
