@@ -17,14 +17,14 @@ static inline bool width_within(int64_t h)
     return 1 <= h && h <= 1024;
 }
 
-static inline bool rise_within(int64_t z)
-{
-    return -1048576 <= z && z <= 1048576;
-}
-
 static inline int64_t size_of(int64_t x)
 {
     return x < 0 ? -x : x;
+}
+
+static inline bool rise_within(int64_t z)
+{
+    return size_of(z) <= 1048576;
 }
 
 static inline int64_t step(const int32_t *list, size_t i)
@@ -88,12 +88,13 @@ negwafir_refusal reference_check(const int32_t *knots, size_t knots_length, cons
     negwafir_refusal counted = lengths(knots_length, values_length, slopes_length);
     if (counted.number != DONE)
         return counted;
-    int64_t knot = knots[0], value = values[0], slope = slopes[0];
-    for (size_t i = 1; i < knots_length; i++) {
-        int64_t next_knot = knots[i], next_value = values[i], next_slope = slopes[i];
+    const int32_t *k = knots, *v = values, *s = slopes, *last = knots + knots_length - 1;
+    int64_t knot = *k, value = *v, slope = *s;
+    while (k != last) {
+        int64_t next_knot = *++k, next_value = *++v, next_slope = *++s;
         int64_t h = next_knot - knot, z = next_value - value;
         if (!width_within(h) || !rise_within(z) || !is_monotone(h, z, slope, next_slope))
-            return named(knots, values, knots_length, i - 1);
+            return named(knots, values, knots_length, (size_t)(k - knots) - 1);
         knot = next_knot;
         value = next_value;
         slope = next_slope;
