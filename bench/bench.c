@@ -1,4 +1,5 @@
-/* Times each function of Negwafir against its reference, on the same input and in the same run, and prints the ratios. */
+/* Sees that each function of Negwafir and its reference answer alike, of accepted and of refused tables; then times the two in turn, on
+   the same input and in the same run, and prints the ratios. */
 #include <stdio.h>
 #include <stdlib.h>
 #include <string.h>
@@ -7,9 +8,11 @@
 #include "reference.h"
 
 /* Every size of table has the same number of points in all, so that no size is easier for the processor to foresee than another. */
-enum { POINTS = 32768, LARGEST = 1024, ROUNDS = 41, SIZES = 3 };
+enum { POINTS = 32768, LARGEST = 1024, ROUNDS = 41, SIZES = 3, KINDS = 4 };
+enum { RISING, RUNS, MIXED, STEEP };
 
 static const size_t sizes[SIZES] = {16, 128, LARGEST};
+static const char *const kinds[KINDS] = {"rising", "runs", "mixed", "steep"};
 
 typedef struct {
     int64_t h, z;
@@ -20,54 +23,75 @@ typedef struct {
     int32_t *knots, *values, *slopes;
 } table;
 
-static int32_t all_knots[SIZES][POINTS], all_values[SIZES][POINTS], all_slopes[SIZES][POINTS];
+static int32_t all[KINDS][SIZES][3][POINTS];
 static piece pieces[POINTS];
-static size_t chosen, length; /* the size of tables that calls are about */
+static size_t kind, size, length; /* the tables that calls are about */
 
-static void choose(size_t size)
+static void choose(size_t some_kind, size_t some_size)
 {
-    chosen = size;
+    kind = some_kind;
+    size = some_size;
     length = sizes[size];
 }
 
 static table table_at(size_t start)
 {
-    return (table){all_knots[chosen] + start, all_values[chosen] + start, all_slopes[chosen] + start};
+    int32_t(*lists)[POINTS] = all[kind][size];
+    return (table){lists[0] + start, lists[1] + start, lists[2] + start};
 }
+
+#define LISTS t.knots, length, t.values, length, t.slopes, length
 
 /* ---- the input */
 
 /* A fixed sequence, so that every run has the same input. */
 static int64_t dice(int64_t low, int64_t high)
 {
-    static uint64_t state = 1;
+    static uint64_t state = 88172645463325252u;
     state ^= state << 13;
     state ^= state >> 7;
     state ^= state << 17;
     return low + (int64_t)(state % (uint64_t)(high - low + 1));
 }
 
-/* Tables with runs of rises, falls and flats, as a tray has them, and built slopes, so that no call stops early. */
-static void fill_tables(void)
+/* The way of the next piece: up; or up, down or level for 32 pieces; or for each piece by itself. */
+static int64_t way_at(size_t i, int64_t before)
 {
-    for (size_t start = 0; start < POINTS; start += length) {
-        table t = table_at(start);
-        int64_t knot = dice(-1000, 1000), value = dice(-1000, 1000), way = 1;
-        for (size_t i = 0; i < length; i++) {
-            t.knots[i] = (int32_t)knot;
-            t.values[i] = (int32_t)value;
-            if (dice(0, 7) == 0)
-                way = dice(-1, 1);
-            knot += dice(1, 200);
-            value += way * dice(1, 5000);
-        }
-        reference_build(t.knots, length, t.values, length, t.slopes, length);
+    if (kind == MIXED || (kind == RUNS && i % 32 == 0))
+        return dice(-1, 1);
+    return before;
+}
+
+/* Built slopes, so that the table is accepted and no call stops early. */
+static void fill_table(table t)
+{
+    int64_t knot = dice(-1000, 1000), value = dice(-1000, 1000), way = 1;
+    for (size_t i = 0; i < length; i++) {
+        t.knots[i] = (int32_t)knot;
+        t.values[i] = (int32_t)value;
+        way = way_at(i, way);
+        knot += dice(1, 200);
+        value += way * dice(1, 5000);
+    }
+    reference_build(LISTS);
+}
+
+/* All points on one line, and each slope three times that of the line: the last test decides each piece, and just accepts it. */
+static void fill_steep_table(table t)
+{
+    int64_t knot = dice(-1000, 1000), secant = dice(1, 20) * (dice(0, 1) ? 1 : -1);
+    for (size_t i = 0; i < length; i++) {
+        t.knots[i] = (int32_t)knot;
+        t.values[i] = (int32_t)(secant * knot);
+        t.slopes[i] = (int32_t)(3 * 256 * secant);
+        knot += dice(1, 200);
     }
 }
 
-/* The pieces of such tables, some with a slope that is too steep, and some too wide. */
+/* The pieces of mixed tables, some with a slope that is too steep, and some too wide. */
 static void fill_pieces(void)
 {
+    choose(MIXED, SIZES - 1);
     for (size_t j = 0; j < POINTS; j++) {
         table t = table_at(j % length == length - 1 ? j - 1 : j);
         piece *p = &pieces[j];
@@ -94,20 +118,26 @@ static negwafir_change change_in(table t, size_t start)
 
 /* ---- before anything is timed: that the two answer alike and leave the same lists */
 
-#define LISTS t.knots, length, t.values, length, t.slopes, length
-#define LISTS_OF(copy) copy[0], length, copy[1], length, copy[2], length
+static size_t refused[NEGWAFIR_SIZE + 1]; /* how often each refusal was seen */
 
-static void want(bool alike, const char *what)
+static void want(bool so, const char *what)
 {
-    if (!alike) {
-        fprintf(stderr, "bench: %s of %zu points: the two do not answer alike\n", what, length);
+    if (!so) {
+        fprintf(stderr, "bench: %s of %zu points, %s: the two do not answer alike\n", what, length, kinds[kind]);
         exit(1);
     }
 }
 
 static bool same_refusal(negwafir_refusal a, negwafir_refusal b)
 {
+    if (a.number <= NEGWAFIR_SIZE)
+        refused[a.number]++;
     return a.number == b.number && a.place == b.place;
+}
+
+static bool same_value(negwafir_value a, negwafir_value b)
+{
+    return same_refusal(a.refusal, b.refusal) && a.value == b.value;
 }
 
 static bool same_told(negwafir_told a, negwafir_told b)
@@ -116,36 +146,148 @@ static bool same_told(negwafir_told a, negwafir_told b)
            a.denominator == b.denominator;
 }
 
-static void copy_lists(int32_t to[3][LARGEST], table t)
+/* A copy of a table that a call may spoil, with lists that are longer than any that is taken. */
+typedef struct {
+    int32_t knots[LARGEST + 1], values[LARGEST + 1], slopes[LARGEST + 1];
+} copy;
+
+static table lists_of(copy *c)
 {
-    memcpy(to[0], t.knots, length * sizeof **to);
-    memcpy(to[1], t.values, length * sizeof **to);
-    memcpy(to[2], t.slopes, length * sizeof **to);
+    return (table){c->knots, c->values, c->slopes};
 }
 
-static bool same_lists(int32_t a[3][LARGEST], int32_t b[3][LARGEST])
+static void copy_table(copy *c, table t)
 {
-    size_t size = length * sizeof **a;
-    return memcmp(a[0], b[0], size) == 0 && memcmp(a[1], b[1], size) == 0 && memcmp(a[2], b[2], size) == 0;
+    memset(c, 0, sizeof *c);
+    memcpy(c->knots, t.knots, length * sizeof *t.knots);
+    memcpy(c->values, t.values, length * sizeof *t.values);
+    memcpy(c->slopes, t.slopes, length * sizeof *t.slopes);
 }
 
-static void compare_answers(size_t start)
+static void compare_changes(const copy *c, negwafir_change change)
 {
-    static int32_t ours[3][LARGEST], theirs[3][LARGEST];
-    table t = table_at(start);
-    negwafir_change change = change_in(t, start);
-    int32_t x = position_in(t, start);
-    negwafir_value our_value = negwafir_evaluate(LISTS, x), their_value = reference_evaluate(LISTS, x);
+    static copy ours, theirs;
+    ours = theirs = *c;
+    table t = lists_of(&ours), u = lists_of(&theirs);
+    want(same_refusal(negwafir_change_point(LISTS, change),
+                      reference_change_point(u.knots, length, u.values, length, u.slopes, length, change)), "change");
+    want(memcmp(&ours, &theirs, sizeof ours) == 0, "lists after a change");
+}
+
+static void compare_builds(const copy *c)
+{
+    static copy ours, theirs;
+    ours = theirs = *c;
+    table t = lists_of(&ours), u = lists_of(&theirs);
+    want(same_refusal(negwafir_build(LISTS), reference_build(u.knots, length, u.values, length, u.slopes, length)), "build");
+    want(memcmp(&ours, &theirs, sizeof ours) == 0, "lists after a build");
+}
+
+static void compare_answers(copy *c, int32_t position, negwafir_change change)
+{
+    table t = lists_of(c);
     want(same_refusal(negwafir_check(LISTS), reference_check(LISTS)), "check");
-    want(same_refusal(our_value.refusal, their_value.refusal) && our_value.value == their_value.value, "evaluation");
-    want(same_told(negwafir_float_answer(LISTS, x), reference_float_answer(LISTS, x)), "float answer");
-    copy_lists(ours, t);
-    copy_lists(theirs, t);
-    want(same_refusal(negwafir_change_point(LISTS_OF(ours), change), reference_change_point(LISTS_OF(theirs), change)) &&
-             same_lists(ours, theirs), "change");
-    memset(ours[2], 0, sizeof ours[2]);
-    memset(theirs[2], 0, sizeof theirs[2]);
-    want(same_refusal(negwafir_build(LISTS_OF(ours)), reference_build(LISTS_OF(theirs))) && same_lists(ours, theirs), "build");
+    want(same_value(negwafir_evaluate(LISTS, position), reference_evaluate(LISTS, position)), "evaluation");
+    want(same_told(negwafir_float_answer(LISTS, position), reference_float_answer(LISTS, position)), "float answer");
+    compare_changes(c, change);
+    compare_builds(c);
+}
+
+/* Just within a limit, just beyond it, and far from it. */
+static int64_t about(int64_t limit)
+{
+    int64_t size_of_it = dice(0, 3) == 0 ? dice(0, 4 * limit) : limit + dice(-1, 1);
+    return dice(0, 1) ? size_of_it : -size_of_it;
+}
+
+static int32_t fitted(int64_t x)
+{
+    return x < INT32_MIN ? INT32_MIN : x > INT32_MAX ? INT32_MAX : (int32_t)x;
+}
+
+static int32_t any_number(void)
+{
+    return (int32_t)(dice(0, 1) ? dice(INT32_MIN, INT32_MAX) : dice(-2000000, 2000000));
+}
+
+/* Gives the piece before a point another width or rise, and moves what comes behind along, so that the other pieces stay as they are. */
+static void stretch(int32_t *list, size_t at, int64_t by)
+{
+    int64_t moved = by - ((int64_t)list[at] - list[at - 1]);
+    for (size_t i = at; i < length; i++)
+        list[i] = fitted(list[i] + moved);
+}
+
+/* One fault, or nearly one. */
+static void spoil(table t)
+{
+    size_t at = (size_t)dice(1, (int64_t)length - 1);
+    switch (dice(0, 5)) {
+    case 0:
+        stretch(t.knots, at, about(NEGWAFIR_MOST_WIDTH));
+        break;
+    case 1:
+        stretch(t.values, at, about(NEGWAFIR_MOST_RISE));
+        break;
+    case 2:
+        t.slopes[at] = fitted(dice(-1, 5) * t.slopes[at] + dice(-1, 1));
+        break;
+    case 3:
+        t.knots[at] = any_number();
+        break;
+    case 4:
+        t.values[at] = any_number();
+        break;
+    default:
+        t.slopes[at] = any_number();
+    }
+}
+
+static negwafir_change some_change(table t)
+{
+    size_t k = (size_t)dice(0, (int64_t)length);
+    if (k == length || dice(0, 3) == 0)
+        return (negwafir_change){k, any_number(), any_number()};
+    return (negwafir_change){k, fitted(t.knots[k] + dice(-300, 300)), fitted(t.values[k] + about(NEGWAFIR_MOST_RISE))};
+}
+
+static void compare_spoilt(table from)
+{
+    static copy c;
+    copy_table(&c, from);
+    table t = lists_of(&c);
+    for (int64_t faults = dice(0, 3); faults > 0; faults--)
+        spoil(t);
+    int32_t first = t.knots[0], last = t.knots[length - 1];
+    int32_t position = dice(0, 3) == 0 || last < first ? any_number() : (int32_t)dice(first, last);
+    compare_answers(&c, position, some_change(t));
+}
+
+/* Lists of any lengths around the limits, each list's own. */
+static void compare_lengths(void)
+{
+    static const size_t some[] = {0, 1, 2, 3, LARGEST, LARGEST + 1};
+    static copy c;
+    choose(RISING, SIZES - 1);
+    copy_table(&c, table_at(0));
+    for (size_t i = 0; i < 6 * 6 * 6; i++) {
+        size_t k = some[i % 6], v = some[i / 6 % 6], s = some[i / 36];
+        want(same_refusal(negwafir_check(c.knots, k, c.values, v, c.slopes, s), reference_check(c.knots, k, c.values, v, c.slopes, s)),
+             "lengths");
+    }
+}
+
+/* A piece of the largest size, which no float answer takes. */
+static void compare_large(void)
+{
+    static copy c = {.knots = {0, 1024, 1025}, .values = {0, 1048576, 1048577}};
+    size_t before = length;
+    length = 3;
+    compare_builds(&c);
+    table t = lists_of(&c);
+    reference_build(LISTS);
+    compare_answers(&c, 700, (negwafir_change){1, 1024, 1024});
+    length = before;
 }
 
 static void compare_verdicts(void)
@@ -155,6 +297,31 @@ static void compare_verdicts(void)
         negwafir_judgement a = negwafir_judge(p->h, p->z, p->m, p->n), b = reference_judge(p->h, p->z, p->m, p->n);
         want(same_refusal(a.refusal, b.refusal) && a.verdict == b.verdict, "verdict");
     }
+}
+
+static void compare_all(void)
+{
+    static copy c;
+    for (size_t k = 0; k < KINDS; k++)
+        for (size_t s = 0; s < SIZES; s++) {
+            choose(k, s);
+            for (size_t start = 0; start < POINTS; start += length) {
+                table t = table_at(start);
+                copy_table(&c, t);
+                want(reference_check(LISTS).number == NEGWAFIR_DONE, "a table that is accepted");
+                compare_answers(&c, position_in(t, start), change_in(t, start));
+                for (size_t i = 0; i < 8; i++)
+                    compare_spoilt(t);
+            }
+        }
+    compare_lengths();
+    compare_large();
+    compare_verdicts();
+    for (size_t number = 0; number <= NEGWAFIR_SIZE; number++)
+        if (refused[number] == 0) {
+            fprintf(stderr, "bench: no call was answered by %zu, so that nothing was compared\n", number);
+            exit(1);
+        }
 }
 
 /* ---- what is timed: every table, or every piece, once; the sum keeps the compiler from leaving an answer out */
@@ -233,66 +400,55 @@ static double middle(double *list)
 }
 
 /* Rounds of the two in turn; the middle of their ratios, and of a tenth at each end, so that what else the machine does falls out. */
-static void compare(const char *what, size_t points, uint64_t (*ours)(void), uint64_t (*theirs)(void))
+static void compare(const char *what, uint64_t (*ours)(void), uint64_t (*theirs)(void))
 {
-    double ratios[ROUNDS], ratio;
-    size_t times = times_for(theirs);
+    double ratios[ROUNDS], own[ROUNDS];
+    size_t times = times_for(theirs), number = ours == our_judge ? POINTS : POINTS / length * (length - 1);
     for (size_t i = 0; i < ROUNDS; i++) {
         uint64_t our_sum = 0, their_sum = 0;
         double our_time = timed(ours, times, &our_sum), their_time = timed(theirs, times, &their_sum);
         want(our_sum == their_sum, what);
+        own[i] = our_time / (double)times / (double)number * 1e9;
         ratios[i] = our_time / their_time;
     }
-    ratio = middle(ratios);
-    printf("| %s | %zu | %.2f | %.2f to %.2f |\n", what, points, ratio, ratios[ROUNDS / 10], ratios[ROUNDS - 1 - ROUNDS / 10]);
+    double ratio = middle(ratios);
+    printf("| %s | %s | %zu | %.2f | %.2f | %.2f to %.2f |\n", what, kinds[kind], length, middle(own), ratio, ratios[ROUNDS / 10],
+           ratios[ROUNDS - 1 - ROUNDS / 10]);
     fflush(stdout);
 }
 
-/* The same for our own time for all points, with the sizes in turn: what grows with the points is as long in every size. */
-static void show_growth(const char *what, uint64_t (*ours)(void))
+/* A build and a change do not look at the slopes, so that steep tables would say nothing of them; and a change would take the slopes away. */
+static void compare_kind(void)
 {
-    double ratios[SIZES][ROUNDS];
-    uint64_t sum;
-    choose(1);
-    size_t times = times_for(ours);
-    for (size_t i = 0; i < ROUNDS; i++) {
-        double own[SIZES];
-        for (size_t s = 0; s < SIZES; s++) {
-            choose(s);
-            own[s] = timed(ours, times, &sum);
-        }
-        for (size_t s = 0; s < SIZES; s++)
-            ratios[s][i] = own[s] / own[1];
-    }
-    printf("| %s |", what);
-    for (size_t s = 0; s < SIZES; s++)
-        printf(" %.2f |", middle(ratios[s]));
-    printf("\n");
+    compare("check", our_check, their_check);
+    compare("evaluation", our_evaluate, their_evaluate);
+    compare("float answer", our_float_answer, their_float_answer);
+    if (kind == STEEP)
+        return;
+    compare("build", our_build, their_build);
+    compare("change", our_change, their_change);
 }
 
 int main(void)
 {
-    for (size_t s = 0; s < SIZES; s++) {
-        choose(s);
-        fill_tables();
-        for (size_t start = 0; start < POINTS; start += length)
-            compare_answers(start);
-    }
+    for (size_t k = 0; k < KINDS; k++)
+        for (size_t s = 0; s < SIZES; s++) {
+            choose(k, s);
+            for (size_t start = 0; start < POINTS; start += length)
+                (kind == STEEP ? fill_steep_table : fill_table)(table_at(start));
+        }
     fill_pieces();
-    compare_verdicts();
-    printf("| Call | Points | Negwafir / C | A tenth of the rounds below and above |\n|---|---|---|---|\n");
-    compare("one piece's verdict", 2, our_judge, their_judge);
-    for (size_t s = 0; s < SIZES; s++) {
-        choose(s);
-        compare("check", length, our_check, their_check);
-        compare("build", length, our_build, their_build);
-        compare("change", length, our_change, their_change);
+    compare_all();
+    printf("| Call | Tables | Points | Negwafir, ns a piece | Negwafir / C | A tenth of the rounds below and above |\n|---|---|---|---|---|---|\n");
+    for (size_t k = 0; k < KINDS; k++) {
+        choose(k, SIZES - 1);
+        compare_kind();
     }
-    compare("evaluation", length, our_evaluate, their_evaluate);
-    compare("float answer", length, our_float_answer, their_float_answer);
-    printf("\n| Time for each point, that of 128 points being 1 | 16 | 128 | 1024 |\n|---|---|---|---|\n");
-    show_growth("check", our_check);
-    show_growth("build", our_build);
-    show_growth("change", our_change);
+    for (size_t s = 0; s + 1 < SIZES; s++) {
+        choose(MIXED, s);
+        compare_kind();
+    }
+    choose(MIXED, SIZES - 1);
+    compare("one piece's verdict", our_judge, their_judge);
     return 0;
 }

@@ -1,13 +1,11 @@
-/* The yardstick: the exact rules as a good C programmer writes them by hand, the same checks in the same order of refusals. Each
-   call goes over the table once: a width is refused where it is met, while the first bad rise and the first bend are only noted,
-   since a width further on comes before them. What writes goes over the table a second time, since a refused call writes nothing. */
+/* The yardstick: the exact rules by hand in C, the same refusals in the same order, in the fastest way that we know (docs/BENCHMARKS.md
+   has what else was tried). A table without a fault is gone over with nothing noted down on the way; only where there is a fault the
+   one to be named is looked for. What writes goes over the table a second time, since a refused call writes nothing. */
 #include "reference.h"
 
 enum { DONE, LENGTHS, COUNT, WIDTH, RISE, BEND, POSITION, POINT, SIZE };
 enum { NONE, RISING, FALLING, FLAT, BENDS };
 enum { DWELL, MOVE };
-
-static const size_t nowhere = SIZE_MAX;
 
 static negwafir_refusal refusal(uint32_t number, size_t place)
 {
@@ -19,9 +17,14 @@ static inline bool width_within(int64_t h)
     return 1 <= h && h <= 1024;
 }
 
+static inline int64_t size_of(int64_t x)
+{
+    return x < 0 ? -x : x;
+}
+
 static inline bool rise_within(int64_t z)
 {
-    return -1048576 <= z && z <= 1048576;
+    return size_of(z) <= 1048576;
 }
 
 static inline int64_t step(const int32_t *list, size_t i)
@@ -31,26 +34,17 @@ static inline int64_t step(const int32_t *list, size_t i)
 
 /* ---- one piece */
 
-static inline bool never_against(int64_t rise, int64_t a, int64_t b)
+/* One test for all three signs: a fall is mirrored, and without a rise it leaves only slopes of 0. Compared without a sign, what is
+   below 0 is above every limit. Up to the line a + b = 3Z the product of `over` and its size is not above 0, and so not above a * b;
+   beyond it, it is the square. So nothing that changes from piece to piece is a branch. */
+static inline bool is_monotone(int64_t h, int64_t z, int64_t m, int64_t n)
 {
-    if (a < 0 || b < 0)
+    int64_t way = z < 0 ? -h : h, rise = 256 * size_of(z), a = m * way, b = n * way;
+    uint64_t most = 4 * (uint64_t)rise;
+    if ((uint64_t)a > most || (uint64_t)b > most)
         return false;
     int64_t over = a + b - 3 * rise;
-    if (over <= 0)
-        return true;
-    if (a > 4 * rise || b > 4 * rise)
-        return false;
-    return over * over <= a * b;
-}
-
-static inline bool is_monotone(int64_t h, int64_t z, int32_t m, int32_t n)
-{
-    int64_t rise = 256 * z, a = m * h, b = n * h;
-    if (z > 0)
-        return never_against(rise, a, b);
-    if (z < 0)
-        return never_against(-rise, -a, -b);
-    return m == 0 && n == 0;
+    return over * size_of(over) <= a * b;
 }
 
 negwafir_judgement reference_judge(int64_t h, int64_t z, int32_t m, int32_t n)
@@ -75,29 +69,51 @@ static inline negwafir_refusal lengths(size_t knots_length, size_t values_length
     return refusal(DONE, 0);
 }
 
+/* What is named of points that have a fault at piece `from` or behind it, and none before; a bend, where the limits are kept. Kept out of
+   line, so that the loops before it have all registers to themselves. */
+static __attribute__((noinline)) negwafir_refusal named(const int32_t *knots, const int32_t *values, size_t length, size_t from)
+{
+    for (size_t i = from; i + 1 < length; i++)
+        if (!width_within(step(knots, i)))
+            return refusal(WIDTH, i);
+    for (size_t i = from; i + 1 < length; i++)
+        if (!rise_within(step(values, i)))
+            return refusal(RISE, i);
+    return refusal(BEND, from);
+}
+
 negwafir_refusal reference_check(const int32_t *knots, size_t knots_length, const int32_t *values, size_t values_length,
                                  const int32_t *slopes, size_t slopes_length)
 {
     negwafir_refusal counted = lengths(knots_length, values_length, slopes_length);
     if (counted.number != DONE)
         return counted;
-    size_t bad_rise = nowhere, bend = nowhere;
-    for (size_t i = 0; i + 1 < knots_length; i++) {
-        int64_t h = step(knots, i), z = step(values, i);
-        if (!width_within(h))
-            return refusal(WIDTH, i);
-        if (bad_rise != nowhere)
-            continue;
-        if (!rise_within(z))
-            bad_rise = i;
-        else if (bend == nowhere && !is_monotone(h, z, slopes[i], slopes[i + 1]))
-            bend = i;
+    const int32_t *k = knots, *v = values, *s = slopes, *last = knots + knots_length - 1;
+    int64_t knot = *k, value = *v, slope = *s;
+    while (k != last) {
+        int64_t next_knot = *++k, next_value = *++v, next_slope = *++s;
+        int64_t h = next_knot - knot, z = next_value - value;
+        if (!width_within(h) || !rise_within(z) || !is_monotone(h, z, slope, next_slope))
+            return named(knots, values, knots_length, (size_t)(k - knots) - 1);
+        knot = next_knot;
+        value = next_value;
+        slope = next_slope;
     }
-    if (bad_rise != nowhere)
-        return refusal(RISE, bad_rise);
-    if (bend != nowhere)
-        return refusal(BEND, bend);
     return refusal(DONE, 0);
+}
+
+/* Whether the pieces from `from` up to `end` are within the limits. The loop is never left early, so that compilers make vectors of it:
+   widths are in 1 to 1024 where no width - 1 has a bit above the lowest ten, and rises where no distance to a limit is below 0. */
+static inline bool within(const int32_t *knots, const int32_t *values, size_t from, size_t end)
+{
+    uint64_t widths = 0;
+    int64_t rises = 0;
+    for (size_t i = from; i < end; i++) {
+        int64_t z = step(values, i);
+        widths |= (uint64_t)(step(knots, i) - 1);
+        rises |= (z + 1048576) | (1048576 - z);
+    }
+    return widths < 1024 && rises >= 0;
 }
 
 /* ---- slopes */
@@ -130,15 +146,8 @@ negwafir_refusal reference_build(const int32_t *knots, size_t knots_length, cons
     negwafir_refusal counted = lengths(knots_length, values_length, slopes_length);
     if (counted.number != DONE)
         return counted;
-    size_t bad_rise = nowhere;
-    for (size_t i = 0; i + 1 < knots_length; i++) {
-        if (!width_within(step(knots, i)))
-            return refusal(WIDTH, i);
-        if (bad_rise == nowhere && !rise_within(step(values, i)))
-            bad_rise = i;
-    }
-    if (bad_rise != nowhere)
-        return refusal(RISE, bad_rise);
+    if (!within(knots, values, 0, knots_length - 1))
+        return named(knots, values, knots_length, 0);
     int64_t h1 = step(knots, 0), z1 = step(values, 0);
     slopes[0] = end_slope(h1, z1);
     for (size_t i = 1; i + 1 < knots_length; i++) {
@@ -151,6 +160,35 @@ negwafir_refusal reference_build(const int32_t *knots, size_t knots_length, cons
     return refusal(DONE, 0);
 }
 
+/* One entry of a list as it would be with `now` at place k. */
+static inline int64_t entry(const int32_t *list, size_t i, size_t k, int32_t now)
+{
+    return i == k ? now : list[i];
+}
+
+/* Whether the points would be within the limits with the change: the pieces away from it, and the two beside it. */
+static inline bool within_after(const int32_t *knots, const int32_t *values, size_t length, negwafir_change change)
+{
+    size_t k = change.point;
+    if (!within(knots, values, 0, k == 0 ? 0 : k - 1) || !within(knots, values, k + 1, length - 1))
+        return false;
+    if (k > 0 && !(width_within((int64_t)change.knot - knots[k - 1]) && rise_within((int64_t)change.value - values[k - 1])))
+        return false;
+    return k + 1 == length || (width_within((int64_t)knots[k + 1] - change.knot) && rise_within((int64_t)values[k + 1] - change.value));
+}
+
+static __attribute__((noinline)) negwafir_refusal named_after(const int32_t *knots, const int32_t *values, size_t length, negwafir_change change)
+{
+    size_t k = change.point;
+    for (size_t i = 0; i + 1 < length; i++)
+        if (!width_within(entry(knots, i + 1, k, change.knot) - entry(knots, i, k, change.knot)))
+            return refusal(WIDTH, i);
+    for (size_t i = 0; i + 1 < length; i++)
+        if (!rise_within(entry(values, i + 1, k, change.value) - entry(values, i, k, change.value)))
+            return refusal(RISE, i);
+    return refusal(DONE, 0);
+}
+
 negwafir_refusal reference_change_point(int32_t *knots, size_t knots_length, int32_t *values, size_t values_length,
                                         int32_t *slopes, size_t slopes_length, negwafir_change change)
 {
@@ -160,21 +198,8 @@ negwafir_refusal reference_change_point(int32_t *knots, size_t knots_length, int
     size_t k = change.point;
     if (k >= knots_length)
         return refusal(POINT, 0);
-    size_t bad_rise = nowhere;
-    int32_t knot = k == 0 ? change.knot : knots[0];
-    int32_t value = k == 0 ? change.value : values[0];
-    for (size_t i = 0; i + 1 < knots_length; i++) {
-        int32_t next_knot = i + 1 == k ? change.knot : knots[i + 1];
-        int32_t next_value = i + 1 == k ? change.value : values[i + 1];
-        if (!width_within((int64_t)next_knot - knot))
-            return refusal(WIDTH, i);
-        if (bad_rise == nowhere && !rise_within((int64_t)next_value - value))
-            bad_rise = i;
-        knot = next_knot;
-        value = next_value;
-    }
-    if (bad_rise != nowhere)
-        return refusal(RISE, bad_rise);
+    if (!within_after(knots, values, knots_length, change))
+        return named_after(knots, values, knots_length, change);
     knots[k] = change.knot;
     values[k] = change.value;
     size_t end = k + 2 < knots_length ? k + 2 : knots_length;
@@ -185,34 +210,27 @@ negwafir_refusal reference_change_point(int32_t *knots, size_t knots_length, int
 
 /* ---- at a position */
 
-/* The table check, and the position's piece on the way: the last that starts at or before it. */
+/* The piece of a position between the first and the last knot of a table that is accepted: the last that starts at or before it. */
+static inline size_t piece_of(const int32_t *knots, size_t length, int32_t position)
+{
+    size_t piece = 0;
+    for (size_t left = length - 1; left > 1;) {
+        size_t half = left / 2;
+        piece = knots[piece + half] <= position ? piece + half : piece;
+        left -= half;
+    }
+    return piece;
+}
+
 static inline negwafir_place locate(const int32_t *knots, size_t knots_length, const int32_t *values, size_t values_length,
                                     const int32_t *slopes, size_t slopes_length, int32_t position)
 {
-    negwafir_refusal counted = lengths(knots_length, values_length, slopes_length);
-    if (counted.number != DONE)
-        return (negwafir_place){counted, 0};
-    size_t bad_rise = nowhere, bend = nowhere, piece = 0;
-    for (size_t i = 0; i + 1 < knots_length; i++) {
-        int64_t h = step(knots, i), z = step(values, i);
-        if (!width_within(h))
-            return (negwafir_place){refusal(WIDTH, i), 0};
-        if (knots[i] <= position)
-            piece = i;
-        if (bad_rise != nowhere)
-            continue;
-        if (!rise_within(z))
-            bad_rise = i;
-        else if (bend == nowhere && !is_monotone(h, z, slopes[i], slopes[i + 1]))
-            bend = i;
-    }
-    if (bad_rise != nowhere)
-        return (negwafir_place){refusal(RISE, bad_rise), 0};
-    if (bend != nowhere)
-        return (negwafir_place){refusal(BEND, bend), 0};
+    negwafir_refusal checked = reference_check(knots, knots_length, values, values_length, slopes, slopes_length);
+    if (checked.number != DONE)
+        return (negwafir_place){checked, 0};
     if (position < knots[0] || position > knots[knots_length - 1])
         return (negwafir_place){refusal(POSITION, 0), 0};
-    return (negwafir_place){refusal(DONE, 0), piece};
+    return (negwafir_place){checked, piece_of(knots, knots_length, position)};
 }
 
 negwafir_value reference_evaluate(const int32_t *knots, size_t knots_length, const int32_t *values, size_t values_length,
