@@ -9,8 +9,6 @@ use Rattle.words.specs.Words.{wordsOf}
 use Rattle.decimals.specs.declared.reading.Number
 use Rattle.decimals.specs.declared.reading.Number32
 use Rattle.decimals.specs.Decimal.{numberOf, number32Of}
-use Rattle.lists.specs.declared.outcome.Reading
-use Rattle.lists.specs.Lists.{readingOf}
 use Rattle.commands.specs.declared.List as Lists
 use Rattle.commands.specs.declared.List.the-variants.{Knots, Values, Slopes}
 use Rattle.commands.specs.declared.Fault.the-variants.{TooLong, NoCommand, TooFew, TooMany, NoList, NotDecimal, Beyond32, Beyond64}
@@ -82,14 +80,9 @@ wide k words = value64 (numberOf (wordAt k words))
 unfoldable pub narrow : ℕ → List (List ℕ) → ℤ
 narrow k words = value32 (number32Of (wordAt k words))
 
--- no more words than a list has room for, and each a number of 32 bits
-abbrev pub foundList : Reading.Reading → Finding
-foundList Reading.the-variants.Numbers = Clear
-foundList (Reading.the-variants.NotDecimal k) = Faulty (NotDecimal k)
-foundList (Reading.the-variants.Beyond k) = Faulty (Beyond32 k)
-
+-- no more than 2,048, for which a list has room, and each a number of 32 bits
 unfoldable pub isList : List (List ℕ) → Finding
-isList words = cond (ltb 2048 (length words)) (Faulty TooMany) (foundList (readingOf words))
+isList words = cond (ltb 2048 (length words)) (Faulty TooMany) (firstFault 0 1 words)
 
 -- ---- names
 

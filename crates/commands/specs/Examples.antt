@@ -4,16 +4,15 @@ use mathlib.Core.Path.{_≡_, refl, ap, _∙_}
 use mathlib.Core.Bool.{false}
 use mathlib.Core.List.{List, [], _∷_}
 use native.Mathlib.Omega.{arith}
-use borrow.Author.Tests.{lt-ltb, le-ltb}
+use borrow.Author.Tests.{lt-ltb, le-ltb, lt-leb}
 use lib.IntN.{pos, negsuc}
 use lib.ListN.{length, replicate, length-replicate}
 use Rattle.words.specs.Words.{isSeparator, wordsAfter, wordsOf}
 use Rattle.decimals.specs.Decimal.{areDigits, natural}
-use Rattle.lists.specs.declared.outcome.Reading.the-variants.{Numbers}
-use Rattle.lists.specs.Lists.{readingFrom}
 use Rattle.commands.specs.declared.List.the-variants.{Knots, Values, Slopes}
 use Rattle.commands.specs.declared.Fault.the-variants.{TooLong, NoCommand, TooFew, TooMany, NoList, NotDecimal, Beyond32, Beyond64}
 use Rattle.commands.specs.declared.Command.the-variants.{Nothing, Wrong, Set, Show, Piece, Build, Check, At, Drive, Change}
+use Rattle.commands.specs.declared.Finding.the-variants.{Clear}
 use Rattle.commands.specs.Commands.{counted, orElse, isNumber, firstFault, numbers, wide, narrow, isList, unless, same, chosen, byWords, commandOf}
 
 -- no byte
@@ -179,7 +178,7 @@ pub record Worked : Type 0 where
   pub change-large-asks : commandOf change-large ≡ Wrong (Beyond32 2)
 
 pub worked : Worked
-unfolding wordsAfter areDigits natural readingFrom counted orElse isNumber firstFault numbers wide narrow isList unless same chosen
+unfolding wordsAfter areDigits natural counted orElse isNumber firstFault numbers wide narrow isList unless same chosen
 worked =
     record {
       empty-asks = refl;
@@ -269,12 +268,12 @@ module _ (b : ℕ) (plain : isSeparator b ≡ false) where
   unfolding isList unless
   too-many n h many = as-set n h ∙ rw (length-replicate, lt-ltb 2048 n many)
 
-zeros : (k n : ℕ) → readingFrom k (replicate n (48 ∷ [])) ≡ Numbers
-unfolding readingFrom areDigits natural
+zeros : (k n : ℕ) → firstFault 0 (suc k) (replicate n (48 ∷ [])) ≡ Clear
+unfolding orElse isNumber firstFault areDigits natural
 zeros k zero = refl
-zeros k (suc n) = zeros (suc k) n
+zeros k (suc n) = rw (lt-leb (suc k) 0 (omega arith)) (zeros (suc k) n)
 
 -- as many as it has room for
 pub full-list : (n : ℕ) → n ≤ 2048 → commandOf (knots-and 48 n) ≡ Set Knots
 unfolding isList unless
-full-list n few = as-set 48 refl n (omega arith) ∙ rw (length-replicate, le-ltb 2048 n few, zeros 1 n)
+full-list n few = as-set 48 refl n (omega arith) ∙ rw (length-replicate, le-ltb 2048 n few, zeros 0 n)

@@ -2,24 +2,10 @@
 ghost use mathlib.Core.Path.{_≡_};
 ghost use lib.ListN.{drop};
 ghost use Rattle.words.specs.Words.{wordsOf};
-ghost use Rattle.commands.specs.Commands.{counted, isNumber, firstFault, numbers, isList, unless};
+ghost use Rattle.commands.specs.Commands.{isNumber, firstFault, numbers, unless};
 use crate::Command;
 use crate::Fault;
 use crate::Finding;
-
-// Whether there are just n words.
-pub(crate) fn count(line: &[u8], from: usize, n: usize) -> Finding
-    ensures { λ r. ⌜ r ≡ counted n (wordsOf (drop from (now (line .entry)))) ⌝ }
-{
-    let found = words::count(line, from);
-    if found < n {
-        return Finding::Faulty(Fault::TooFew);
-    }
-    if n < found {
-        return Finding::Faulty(Fault::TooMany);
-    }
-    Finding::Clear
-}
 
 // Whether a word, the k-th of its command, is a number: of 64 bits if it is among the first `wides`, else of 32.
 fn is_number(word: &[u8], k: usize, wides: usize) -> Finding
@@ -40,7 +26,7 @@ fn is_number(word: &[u8], k: usize, wides: usize) -> Finding
 }
 
 // The first fault of the words.
-fn first_fault(line: &[u8], from: usize, wides: usize) -> Finding
+pub(crate) fn first_fault(line: &[u8], from: usize, wides: usize) -> Finding
     ensures { λ r. ⌜ r ≡ firstFault wides 1 (wordsOf (drop from (now (line .entry)))) ⌝ }
 {
     let mut at = from;
@@ -59,24 +45,14 @@ fn first_fault(line: &[u8], from: usize, wides: usize) -> Finding
 pub(crate) fn are_numbers(line: &[u8], from: usize, n: usize, wides: usize) -> Finding
     ensures { λ r. ⌜ r ≡ numbers n wides (wordsOf (drop from (now (line .entry)))) ⌝ }
 {
-    match count(line, from, n) {
-        Finding::Clear => first_fault(line, from, wides),
-        Finding::Faulty(fault) => Finding::Faulty(fault),
+    let found = words::count(line, from);
+    if found < n {
+        return Finding::Faulty(Fault::TooFew);
     }
-}
-
-// Whether there are no more words than a list has room for, and each is a number of 32 bits.
-pub(crate) fn is_list(line: &[u8], from: usize) -> Finding
-    ensures { λ r. ⌜ r ≡ isList (wordsOf (drop from (now (line .entry)))) ⌝ }
-{
-    if lists::ROOM < words::count(line, from) {
+    if n < found {
         return Finding::Faulty(Fault::TooMany);
     }
-    match lists::reading(line, from) {
-        lists::Reading::Numbers => Finding::Clear,
-        lists::Reading::NotDecimal(k) => Finding::Faulty(Fault::NotDecimal(k)),
-        lists::Reading::Beyond(k) => Finding::Faulty(Fault::Beyond32(k)),
-    }
+    first_fault(line, from, wides)
 }
 
 // The command, unless a fault was found.

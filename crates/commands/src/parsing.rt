@@ -9,8 +9,7 @@ use crate::List;
 use crate::Piece;
 use crate::Point;
 use crate::findings::are_numbers;
-use crate::findings::count;
-use crate::findings::is_list;
+use crate::findings::first_fault;
 use crate::findings::unless_faulty;
 use crate::naming::place;
 use crate::numbers::narrow_at;
@@ -72,14 +71,21 @@ fn named(line: &[u8], start: usize, end: usize) -> Command
 fn set(line: &[u8], from: usize, list: List) -> Command
     ensures { λ r. ⌜ r ≡ setOf list (wordsOf (drop from (now (line .entry)))) ⌝ }
 {
-    unless_faulty(is_list(line, from), Command::Set(list))
+    if lists::ROOM < words::count(line, from) {
+        return Command::Wrong(Fault::TooMany);
+    }
+    unless_faulty(first_fault(line, from, 0), Command::Set(list))
 }
 
 // `show LIST`.
 fn show(line: &[u8], from: usize) -> Command
     ensures { λ r. ⌜ r ≡ showOf (wordsOf (drop from (now (line .entry)))) ⌝ }
 {
-    unless_faulty(count(line, from, 1), shown(word_at(line, from, 1)))
+    match words::count(line, from) {
+        0 => Command::Wrong(Fault::TooFew),
+        1 => shown(word_at(line, from, 1)),
+        _ => Command::Wrong(Fault::TooMany),
+    }
 }
 
 fn shown(name: &[u8]) -> Command
@@ -110,7 +116,10 @@ fn piece(line: &[u8], from: usize) -> Command
 fn alone(line: &[u8], from: usize, command: Command) -> Command
     ensures { λ r. ⌜ r ≡ aloneOf command (wordsOf (drop from (now (line .entry)))) ⌝ }
 {
-    unless_faulty(count(line, from, 0), command)
+    match words::count(line, from) {
+        0 => command,
+        _ => Command::Wrong(Fault::TooMany),
+    }
 }
 
 // `at X`.

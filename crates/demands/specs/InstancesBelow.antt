@@ -1,7 +1,7 @@
 -- A worked instance of what each function below the tables ensures, as `Instances.antt` has them of the calls over pieces and tables: none of these promises is one that nothing
 -- meets. The functions that C links have the same contracts, or a record for an enum that `Cases.antt` of `exports` spells out. Text is the list of its bytes, as in `WrongText.antt`.
-use mathlib.Core.Path.{refl}
-use mathlib.Core.Bool.{true}
+use mathlib.Core.Path.{refl, sym}
+use mathlib.Core.Bool.{true, false}
 use mathlib.Core.List.{List, [], _∷_}
 use Prim.Native.Nat.{ℕ}
 use lib.Dec.{lit<}
@@ -17,8 +17,12 @@ use Rattle.decimals.specs.Decimal.{areDigits, natural}
 use Rattle.decimals.specs.Text.{spelled}
 use Rattle.decimals.specs.declared.reading.Number as Number
 use Rattle.decimals.specs.declared.reading.Number32 as Number32
-use Rattle.lists.specs.Lists.{readingFrom, numbersOf, spaced}
-use Rattle.lists.specs.declared.outcome.Reading.the-variants.{Numbers}
+use Rattle.answers.specs.declared.filling.Signed.{Signed}
+use Rattle.answers.specs.Filling.{filled}
+use Rattle.answers.specs.Texts.{entryOf}
+use Rattle.lists.specs.Lists.{numbersOf, spaced}
+use Rattle.commands.specs.declared.Command as Command
+use Rattle.commands.specs.Examples.{at-one, worked}
 use Rattle.position.specs.declared.Sought.the-variants.{On}
 use Rattle.position.specs.Spot.{on}
 use Rattle.demands.specs.Contracts.{list, SaysMonotone, HasCoefficients, Steps, Renews, Seeks}
@@ -42,10 +46,14 @@ use Rattle.decimals.proofs.whole32.Reads as decimals·whole32
 use Rattle.decimals.proofs.append_natural.Reads as decimals·append_natural
 use Rattle.decimals.proofs.append_whole.Reads as decimals·append_whole
 use Rattle.decimals.proofs.append_whole32.Reads as decimals·append_whole32
+use Rattle.answers.proofs.natural.Reads as answers·natural
+use Rattle.answers.proofs.whole.Reads as answers·whole
+use Rattle.answers.proofs.fill.Reads as answers·fill
+use Rattle.answers.proofs.entry.Reads as answers·entry
 use Rattle.lines.proofs.take.Reads as lines·take
-use Rattle.lists.proofs.reading.Reads as lists·reading
 use Rattle.lists.proofs.set.Reads as lists·set
 use Rattle.lists.proofs.append_row.Reads as lists·append_row
+use Rattle.commands.proofs.parse.Reads as commands·parse
 
 abbrev pub bytes : List ℕ → RefT (List ℕ)
 bytes bs = record { ptr = (0, 0); name = 0; now = bs }
@@ -62,6 +70,19 @@ command = 107 ∷ 32 ∷ 53 ∷ 32 ∷ 45 ∷ 55 ∷ []
 
 abbrev buffer : List ℕ
 buffer = 61 ∷ 0 ∷ 0 ∷ 0 ∷ []
+
+-- `$,####`, and three numbers for it
+abbrev template : List ℕ
+template = 36 ∷ 44 ∷ 35 ∷ 35 ∷ 35 ∷ 35 ∷ []
+
+abbrev pub seven : Signed
+seven = record { negative = false; size = 7 }
+
+abbrev pub minus-zero : Signed
+minus-zero = record { negative = true; size = 0 }
+
+abbrev pub three : Signed
+three = record { negative = false; size = 3 }
 
 pub record WorkedBelow : Type 0 where
   -- 2147483647 to −2147483648; 1 ≤ 1 ≤ 1024; −10 divided by 3
@@ -85,11 +106,18 @@ pub record WorkedBelow : Type 0 where
   pub append-natural : decimals·append_natural.Post ([], tt) (bytes buffer, (1, (7, tt))) 2 (bytes (61 ∷ 55 ∷ 0 ∷ 0 ∷ []), (1, (7, tt)))
   pub append-whole : decimals·append_whole.Post ([], tt) (bytes buffer, (1, (negsuc 6, tt))) 3 (bytes (61 ∷ 45 ∷ 55 ∷ 0 ∷ []), (1, (negsuc 6, tt)))
   pub append-whole32 : decimals·append_whole32.Post ([], tt) (bytes buffer, (1, (negsuc 6, tt))) 3 (bytes (61 ∷ 45 ∷ 55 ∷ 0 ∷ []), (1, (negsuc 6, tt)))
+  -- 7 and −2⁶³ as they are written; `$,####` with the text `a` and the numbers 7, −0 and 3 is `a,7-03`; of `a`, LF, `b` the second entry is `b`
+  pub natural-as : answers·natural.Post tt (7, tt) seven (7, tt)
+  pub whole-as : answers·whole.Post tt (negsuc 9223372036854775807, tt) (record { negative = true; size = 9223372036854775808 }) (negsuc 9223372036854775807, tt)
+  pub fill : answers·fill.Post ([], ([], ([], tt))) (bytes (61 ∷ 0 ∷ 0 ∷ 0 ∷ 0 ∷ 0 ∷ 0 ∷ 0 ∷ []), (1, (bytes template, (bytes (97 ∷ []), (seven, (minus-zero, (three, tt))))))) 7
+      (bytes (61 ∷ 97 ∷ 44 ∷ 55 ∷ 45 ∷ 48 ∷ 51 ∷ 0 ∷ []), (1, (bytes template, (bytes (97 ∷ []), (seven, (minus-zero, (three, tt)))))))
+  pub entry : answers·entry.Post ([], tt) (bytes (97 ∷ 10 ∷ 98 ∷ []), (1, tt)) (bytes (98 ∷ [])) (bytes (97 ∷ 10 ∷ 98 ∷ []), (1, tt))
   -- `b`, LF ends a line that begins with what is held; `k 5 -7` puts 5 and −7 in front of a list, and the two are written so
   pub take : lines·take.Post ([], ([], tt)) (bytes buffer, (1, (bytes (98 ∷ 10 ∷ []), (0, tt)))) (record { held = 2; next = 2; whole = true }) (bytes (61 ∷ 98 ∷ 0 ∷ 0 ∷ []), (1, (bytes (98 ∷ 10 ∷ []), (0, tt))))
-  pub reading : lists·reading.Post ([], tt) (bytes command, (1, tt)) Numbers (bytes command, (1, tt))
   pub set : lists·set.Post ([], ([], tt)) (list (pos 0 ∷ pos 0 ∷ pos 1 ∷ []), (bytes command, tt)) 2 (list (pos 5 ∷ negsuc 6 ∷ pos 1 ∷ []), (bytes command, tt))
   pub append-row : lists·append_row.Post ([], ([], tt)) (bytes buffer, (0, (list (pos 5 ∷ negsuc 6 ∷ []), tt))) 4 (bytes (53 ∷ 32 ∷ 45 ∷ 55 ∷ []), (0, (list (pos 5 ∷ negsuc 6 ∷ []), tt)))
+  -- `at`, tab, `1`, space asks for position 1
+  pub parse : commands·parse.Post ([], tt) (bytes at-one, tt) (Command.the-variants.At (pos 1)) (bytes at-one, tt)
   -- 1, 1, 256, 256 is monotone and a line; the steps, renewed slopes and a position of (0,0), (1,1), (2,4), (3,7) and of (0,0), (3,−10)
   pub is-monotone : SaysMonotone (pos 1) (pos 1) (pos 256) (pos 256) true
   pub coefficients : HasCoefficients (pos 1) (pos 1) (pos 256) (pos 256) (pos 256) (pos 0) (pos 0)
@@ -98,7 +126,7 @@ pub record WorkedBelow : Type 0 where
   pub seek : Seeks two (pos 1) (On (record { piece = 0; left = pos 0; h = pos 3; z = negsuc 9; m = negsuc 852; n = negsuc 852; t = pos 1 }))
 
 pub worked-below : WorkedBelow
-unfolding front wordsAfter areDigits natural spelled readingFrom numbersOf spaced
+unfolding front wordsAfter areDigits natural spelled filled entryOf numbersOf spaced
 worked-below =
     record {
       difference = refl;
@@ -118,10 +146,14 @@ worked-below =
       append-natural = record { counted = refl; buffer = refl };
       append-whole = record { counted = refl; buffer = refl };
       append-whole32 = record { counted = refl; buffer = refl };
+      natural-as = refl;
+      whole-as = refl;
+      fill = record { counted = refl; buffer = refl };
+      entry = refl;
       take = record { gathered = record { counted = refl; buffer = refl }; following = refl; ended = refl };
-      reading = refl;
       set = record { counted = refl; placed = refl };
       append-row = record { counted = refl; buffer = refl };
+      parse = sym (worked .at-one-asks);
       is-monotone = holds (monotone-rising (ltZ-yes tt) (short-accepts (line (leZ-yes tt) (leZ-yes tt) (leZ-yes tt))));
       coefficients = record { first-is = refl; second-is = refl; third-is = refl };
       step = refl;

@@ -52,7 +52,6 @@ use Rattle.answers.proofs.whole32.Reads as answers·whole32
 use Rattle.answers.proofs.fill.Reads as answers·fill
 use Rattle.answers.proofs.entry.Reads as answers·entry
 use Rattle.lines.proofs.take.Reads as lines·take
-use Rattle.lists.proofs.reading.Reads as lists·reading
 use Rattle.lists.proofs.set.Reads as lists·set
 use Rattle.lists.proofs.append_row.Reads as lists·append_row
 use Rattle.commands.proofs.parse.Reads as commands·parse
@@ -229,9 +228,6 @@ answers·entry-tied = (λ κs a. tt, λ κs a r s x y p q. p ∙ sym q)
 
 pub lines·take-tied : Tied lines·take.Pre lines·take.Post with-first
 lines·take-tied = (λ κs a. tt, λ κs a r s x y p q. λ i. (one-taken {r = r} {s = s} p q i, one-line {r = r} {s = s} p q i))
-
-pub lists·reading-tied : Tied lists·reading.Pre lists·reading.Post result
-lists·reading-tied = (λ κs a. tt, λ κs a r s x y p q. p ∙ sym q)
 
 pub lists·set-tied : Tied lists·set.Pre lists·set.Post with-first
 lists·set-tied = (λ κs a. tt, λ κs a r s x y p q. λ i. (one-set p q i, one-list p q i))

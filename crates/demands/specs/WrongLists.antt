@@ -1,6 +1,6 @@
 -- Wrong programs with lines and lists of the workbench, each refuted by what it would answer to one call, or leave in a buffer or a list, as in `WrongText.antt`. A call is written by
--- its arguments, what the buffer or list that it changes may hold when it returns, and what may be answered to it, last. Text is the list of its bytes: 97 to 99 are `a` to `c`, 107,
--- 120 and 121 `k`, `x` and `y`, 32 is a space, 44 a comma, 10 an LF, 45 a `-`, and 48 to 57 are the digits.
+-- its arguments, what the buffer or list that it changes may hold when it returns, and what may be answered to it, last. Text is the list of its bytes: 97 to 99 are `a` to `c`, 107
+-- and 120 `k` and `x`, 32 is a space, 44 a comma, 10 an LF, 45 a `-`, and 48 to 57 are the digits.
 use mathlib.Core.Path.{ap}
 use mathlib.Core.Bool.{Bool, true, false}
 use mathlib.Core.List.{List, [], _∷_, map}
@@ -10,19 +10,13 @@ use contract.Lifetimes.{Lfts}
 use Rattle.words.specs.Words.{front, wordsAfter}
 use Rattle.decimals.specs.Decimal.{areDigits, natural}
 use Rattle.decimals.specs.Text.{spelled}
-use Rattle.lists.specs.Lists.{readingFrom, numbersOf, spaced}
-use Rattle.lists.specs.declared.outcome.Reading.{Reading}
-use Rattle.lists.specs.declared.outcome.Reading.the-variants.{Numbers, NotDecimal, Beyond}
+use Rattle.lists.specs.Lists.{numbersOf, spaced}
 use Rattle.demands.specs.Contracts.{list}
 use Rattle.demands.specs.InstancesBelow.{bytes}
 use Rattle.demands.specs.Refuting.{numbers-differ, lists-differ}
 use Rattle.lines.proofs.take.Reads as lines·take
-use Rattle.lists.proofs.reading.Reads as lists·reading
 use Rattle.lists.proofs.set.Reads as lists·set
 use Rattle.lists.proofs.append_row.Reads as lists·append_row
-
-abbrev one : Lfts 1
-one = ([], tt)
 
 abbrev two : Lfts 2
 two = ([], ([], tt))
@@ -31,11 +25,6 @@ two = ([], ([], tt))
 abbrev bit : Bool → ℤ
 bit true = pos 1
 bit false = pos 0
-
-abbrev outcome : Reading → List ℤ
-outcome Numbers = []
-outcome (NotDecimal k) = pos 0 ∷ pos k ∷ []
-outcome (Beyond k) = pos 1 ∷ pos k ∷ []
 
 -- ---- lines::take
 
@@ -77,46 +66,6 @@ line-ended-by-its-chunk p = numbers-differ tt (ap bit (p .ended))
 pub line-feed-at-the-end-passed-over : take (0 ∷ 0 ∷ []) 0 (97 ∷ 10 ∷ []) 0 (97 ∷ 0 ∷ []) 1 2 false → ⊥
 unfolding front
 line-feed-at-the-end-passed-over p = numbers-differ tt (ap bit (p .ended))
-
--- ---- lists::reading
-
-abbrev reading : List ℕ → ℕ → (r : Reading) → Type 0
-reading line from r = lists·reading.Post one (bytes line, (from, tt)) r (bytes line, (from, tt))
-
--- the second word of `7 x` is no number: not all are
-pub first-word-read-alone : reading (55 ∷ 32 ∷ 120 ∷ []) 0 Numbers → ⊥
-unfolding wordsAfter areDigits natural readingFrom
-first-word-read-alone p = lists-differ tt (ap outcome p)
-
--- it is the second, as they are counted from 1
-pub words-counted-from-0 : reading (55 ∷ 32 ∷ 120 ∷ []) 0 (NotDecimal 1) → ⊥
-unfolding wordsAfter areDigits natural readingFrom
-words-counted-from-0 p = lists-differ tt (ap outcome p)
-
--- of `x 7 y` the first that is none is the first, and not the third
-pub last-fault-told : reading (120 ∷ 32 ∷ 55 ∷ 32 ∷ 121 ∷ []) 0 (NotDecimal 3) → ⊥
-unfolding wordsAfter areDigits natural readingFrom
-last-fault-told p = lists-differ tt (ap outcome p)
-
--- `x 7` from 1 on is a number
-pub words-read-from-the-front : reading (120 ∷ 32 ∷ 55 ∷ []) 1 (NotDecimal 1) → ⊥
-unfolding wordsAfter areDigits natural readingFrom
-words-read-from-the-front p = lists-differ tt (ap outcome p)
-
--- `x` is no number, and none that is too large
-pub text-called-too-large : reading (120 ∷ []) 0 (Beyond 1) → ⊥
-unfolding wordsAfter areDigits natural readingFrom
-text-called-too-large p = lists-differ tt (ap outcome p)
-
--- 2147483648 is no number of 32 bits
-pub number-of-33-bits-taken : reading (50 ∷ 49 ∷ 52 ∷ 55 ∷ 52 ∷ 56 ∷ 51 ∷ 54 ∷ 52 ∷ 56 ∷ []) 0 Numbers → ⊥
-unfolding wordsAfter areDigits natural readingFrom
-number-of-33-bits-taken p = lists-differ tt (ap outcome p)
-
--- −2147483648 is one
-pub least-number-beyond : reading (45 ∷ 50 ∷ 49 ∷ 52 ∷ 55 ∷ 52 ∷ 56 ∷ 51 ∷ 54 ∷ 52 ∷ 56 ∷ []) 0 (Beyond 1) → ⊥
-unfolding wordsAfter areDigits natural readingFrom
-least-number-beyond p = lists-differ tt (ap outcome p)
 
 -- ---- lists::set
 

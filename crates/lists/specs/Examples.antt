@@ -6,35 +6,14 @@ use lib.IntN.{pos, negsuc}
 use Rattle.words.specs.Words.{wordsAfter, wordsOf}
 use Rattle.decimals.specs.Decimal.{areDigits, natural}
 use Rattle.decimals.specs.Text.{spelled}
-use Rattle.lists.specs.declared.outcome.Reading.the-variants.{Numbers, NotDecimal, Beyond}
-use Rattle.lists.specs.Lists.{readingFrom, readingOf, numbersOf, spaced, rowOf, Setting}
+use Rattle.lists.specs.Lists.{numbersOf, spaced, rowOf, Setting}
 
--- `7 -12`, `7 x 3` and `2147483648`, which is 2³¹
+-- `7 -12` and `7 x 3`
 two-numbers : List ℕ
 two-numbers = 55 ∷ 32 ∷ 45 ∷ 49 ∷ 50 ∷ []
 
 x-between : List ℕ
 x-between = 55 ∷ 32 ∷ 120 ∷ 32 ∷ 51 ∷ []
-
-two-to-31 : List ℕ
-two-to-31 = 50 ∷ 49 ∷ 52 ∷ 55 ∷ 52 ∷ 56 ∷ 51 ∷ 54 ∷ 52 ∷ 56 ∷ []
-
-numbers-alone : readingOf (wordsOf two-numbers) ≡ Numbers
-unfolding two-numbers wordsAfter areDigits natural readingFrom
-numbers-alone = refl
-
-second-is-none : readingOf (wordsOf x-between) ≡ NotDecimal 2
-unfolding x-between wordsAfter areDigits natural readingFrom
-second-is-none = refl
-
-first-is-beyond : readingOf (wordsOf two-to-31) ≡ Beyond 1
-unfolding two-to-31 wordsAfter areDigits natural readingFrom
-first-is-beyond = refl
-
--- no word is none that is no number
-nothing-to-read : readingOf [] ≡ Numbers
-unfolding readingFrom
-nothing-to-read = refl
 
 up-to-the-first-that-is-none : numbersOf (wordsOf x-between) ≡ pos 7 ∷ []
 unfolding x-between wordsAfter areDigits natural numbersOf

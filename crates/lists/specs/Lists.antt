@@ -1,5 +1,5 @@
 -- What the words of a line say as a list of numbers of 32 bits, and what a list says as text. A word is the list of its bytes.
-use Prim.Native.Nat.{ℕ, suc}
+use Prim.Native.Nat.{ℕ}
 use mathlib.Core.Path.{_≡_}
 use mathlib.Core.List.{List, [], _∷_, _++_}
 use lib.IntN.{ℤ}
@@ -7,22 +7,6 @@ use lib.ListN.{length, take, drop}
 use Rattle.decimals.specs.declared.reading.Number32
 use Rattle.decimals.specs.Decimal.{number32Of}
 use Rattle.decimals.specs.Text.{textOf}
-use Rattle.lists.specs.declared.outcome.Reading
-
--- what word k says decides where it is no number, and what is read behind it otherwise
-abbrev pub decided : Number32.Number32 → ℕ → Reading.Reading → Reading.Reading
-decided (Number32.the-variants.Is n) k later = later
-decided Number32.the-variants.NotDecimal k later = Reading.the-variants.NotDecimal k
-decided Number32.the-variants.TooLarge k later = Reading.the-variants.Beyond k
-
--- whether words, of which the first is word k, are numbers of 32 bits
-unfoldable pub readingFrom : ℕ → List (List ℕ) → Reading.Reading
-readingFrom k [] = Reading.the-variants.Numbers
-readingFrom k (w ∷ ws) = decided (number32Of w) k (readingFrom (suc k) ws)
-
--- the words are counted from 1
-abbrev pub readingOf : List (List ℕ) → Reading.Reading
-readingOf words = readingFrom 1 words
 
 -- a number before others, and nothing where it is none
 abbrev pub before : Number32.Number32 → List ℤ → List ℤ

@@ -2,50 +2,28 @@
 ghost use mathlib.Core.Path.{_≡_};
 ghost use lib.ListN.{drop};
 ghost use Rattle.words.specs.Words.{wordsOf};
-ghost use Rattle.lists.specs.Lists.{readingOf, numbersOf, Setting};
-ghost use Rattle.lists.specs.Next.{Says};
-use crate::outcome::Reading;
+ghost use Rattle.lists.specs.Lists.{numbersOf, Setting};
+ghost use Rattle.lists.specs.Next.{numbersNext};
 
 // How many numbers a list of the workbench has room for.
 pub const ROOM: usize = 2048;
 
-// What the next word says: a number, and where the word ends; or why it is none.
+// The number that the next word says, and where the word ends; nothing where there is no word, or where it says none.
 enum Next {
     Is(i32, usize),
-    NotDecimal,
-    Beyond,
     Nothing,
 }
 
 fn next_number(line: &[u8], from: usize) -> Next
-    ensures { λ r. ⌜ Says (now (line .entry)) from r ⌝ }
+    ensures { λ r. ⌜ numbersOf (wordsOf (drop from (now (line .entry)))) ≡ numbersNext (now (line .entry)) r ⌝ }
 {
     let words::Word::At { start, end } = words::next_word(line, from) else {
         return Next::Nothing;
     };
     match decimals::whole32(words::part(line, start, end)) {
         decimals::Number32::Is(n) => Next::Is(n, end),
-        decimals::Number32::NotDecimal => Next::NotDecimal,
-        decimals::Number32::TooLarge => Next::Beyond,
-    }
-}
-
-// Whether all words of the line from `from` on are numbers of 32 bits; or which of them is the first that is not, and why.
-pub fn reading(line: &[u8], from: usize) -> Reading
-    ensures { λ r. ⌜ r ≡ readingOf (wordsOf (drop from (now (line .entry)))) ⌝ }
-{
-    let mut at = from;
-    let mut n = 0;
-    loop {
-        match next_number(line, at) {
-            Next::Is(_, end) => {
-                at = end;
-                n += 1;
-            }
-            Next::NotDecimal => return Reading::NotDecimal(n + 1),
-            Next::Beyond => return Reading::Beyond(n + 1),
-            Next::Nothing => return Reading::Numbers,
-        }
+        decimals::Number32::NotDecimal => Next::Nothing,
+        decimals::Number32::TooLarge => Next::Nothing,
     }
 }
 

@@ -1,40 +1,30 @@
--- `commands::findings::are_numbers` meets its contract: the count is wrong, or it is the words that are asked.
-use Prim.Native.Nat.{ℕ}
+-- `commands::findings::are_numbers` meets its contract: its two tests are those of `counted`, and behind them the words are asked.
 use borrow.Author.Needs.{needs}
-use mathlib.Core.Path.{_≡_, sym, ap, _∙_}
-use mathlib.Core.List.{List}
-use Rattle.commands.specs.declared.Finding.{Finding}
-use Rattle.commands.specs.Commands.{orElse, counted, firstFault, numbers}
+use borrow.Author.Tests.{lt-ltb, le-ltb}
+use Rattle.commands.specs.Commands.{orElse, counted, numbers}
 use Rattle.commands.proofs.findings.are_numbers.Statement.{statement}
 use Rattle.commands.proofs.findings.are_numbers.Tie as tie
-
-asked : (n wides : ℕ) (words : List (List ℕ)) {found : Finding} → found ≡ counted n words → orElse found (firstFault wides 1 words) ≡ numbers n wides words
-unfolding numbers
-asked n wides words e = ap (λ (found : Finding). orElse found (firstFault wides 1 words)) e
 
 count-requires : tie.Need-count-requires
 count-requires c κs = search needs
 
-enum-told : tie.Need-enum-told
-enum-told c = search needs
+returns : tie.Need-returns
+unfolding orElse counted numbers
+returns c = rw (← c .before .count .ensures, lt-ltb _ _ (c .if1 .taken))
+
+returns-2 : tie.Need-returns-2
+unfolding orElse counted numbers
+returns-2 c = rw (← c .before .before .count .ensures, le-ltb _ _ (c .before .if1 .left), lt-ltb _ _ (c .if2 .taken))
 
 first-fault-requires : tie.Need-first-fault-requires
 first-fault-requires c κs = search needs
 
-enum-known-fault : tie.Need-enum-known-fault
-enum-known-fault c = search needs
-
-returns : tie.Need-returns
-unfolding orElse
-returns c =
-    let told = c .before in
-    c .first-fault .ensures ∙ asked _ _ _ (sym (told .enum-told .given .1) ∙ told .before .before .count .ensures)
-
-returns-2 : tie.Need-returns-2
-unfolding orElse
-returns-2 c = asked _ _ _ (sym (c .before .fault .given .1) ∙ c .before .before .before .count .ensures)
+returns-3 : tie.Need-returns-3
+unfolding orElse counted numbers
+returns-3 c =
+    let asked = c .before in
+    rw (← asked .before .before .count .ensures, le-ltb _ _ (asked .before .if1 .left), le-ltb _ _ (asked .if2 .left)) (c .first-fault .ensures)
 
 pub are-numbers-spec : {M : Type 1} → statement M
 are-numbers-spec =
-    tie.close
-    (tie.spec count-requires enum-told first-fault-requires enum-known-fault returns returns-2)
+    tie.close (tie.spec count-requires returns returns-2 first-fault-requires returns-3)

@@ -1,5 +1,5 @@
 -- `lists::numbers::next_number` meets its contract: a word, or none, by the walk over the words, and what the word says.
-use mathlib.Core.Path.{_≡_, sym, ap, _∙_, subst⁻¹}
+use mathlib.Core.Path.{_≡_, sym, ap, _∙_}
 use denote.Ref.{now}
 use lib.IntN.{ℤ}
 use mir.Syntax.{w32}
@@ -8,7 +8,8 @@ use mir.Facts.{toZ-ofZ}
 use Rattle.words.specs.Words.{partOf}
 use Rattle.words.specs.Walk.{Found, a-word, no-word}
 use Rattle.decimals.specs.Decimal.{number32Of}
-use Rattle.lists.specs.Next.{Number, no-word-says, a-word-says}
+use Rattle.lists.specs.declared.numbers.Next.the-variants.{Is}
+use Rattle.lists.specs.Next.{numbersNext, no-word-says, a-word-says}
 use borrow.Author.Needs.{needs}
 use Rattle.lists.proofs.numbers.next_number.Statement.{statement}
 use Rattle.lists.proofs.numbers.next_number.Tie as tie
@@ -23,7 +24,7 @@ enum-told : tie.Need-enum-told
 enum-told c = search needs
 
 returns : tie.Need-returns
-returns c = no-word-says _ _ (no-word _ _ (sym (c .before .before .next-word .ensures) ∙ c .enum-told .given .1))
+returns c = no-word-says (no-word _ _ (sym (c .before .before .next-word .ensures) ∙ c .enum-told .given .1))
 
 part-requires : tie.Need-part-requires
 part-requires c κs = search needs
@@ -54,18 +55,18 @@ returns-2 c =
     let at = c .before .before .before in
     let s = at .before .before .before .before .before .before .before in
     let fits : SFits w32 (c .before .n .given .0 .0) = search needs in
-    subst⁻¹ (λ (n : ℤ). Number (now (s .args .line)) (s .args .from) n (at .before .before .before .start .given .0 .1 .0)) (toZ-ofZ fits)
-    (a-word-says _ _ _ _ (word (at .before .before)) _ (sym (c .before .n .given .1) ∙ said at))
+    a-word-says (word (at .before .before) .first) (sym (c .before .n .given .1) ∙ said at)
+    ∙ sym (ap (λ (n : ℤ). numbersNext (now (s .args .line)) (Is n (at .before .before .before .start .given .0 .1 .0))) (toZ-ofZ fits))
 
 returns-3 : tie.Need-returns-3
 returns-3 c =
     let at = c .before .before in
-    a-word-says _ _ _ _ (word (at .before .before)) _ (sym (c .enum-told2 .given .1) ∙ said at)
+    a-word-says (word (at .before .before) .first) (sym (c .enum-told2 .given .1) ∙ said at)
 
 returns-4 : tie.Need-returns-4
 returns-4 c =
     let at = c .before .before in
-    a-word-says _ _ _ _ (word (at .before .before)) _ (sym (c .enum-told3 .given .1) ∙ said at)
+    a-word-says (word (at .before .before) .first) (sym (c .enum-told3 .given .1) ∙ said at)
 
 pub next-number-spec : {M : Type 1} → statement M
 next-number-spec =

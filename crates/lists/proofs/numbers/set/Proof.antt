@@ -1,8 +1,8 @@
 -- `lists::numbers::set` meets its contract: the numbers passed stand in front of the list, and those from the present position on are left. A turn places one more.
 use Prim.Native.Nat.{ℕ, _+_, _-_}
 use native.Mathlib.Omega.{arith}
-use mathlib.Core.Path.{_≡_, sym, subst, subst⁻¹}
-use mathlib.Core.List.{List, [], _∷_}
+use mathlib.Core.Path.{sym, ap, _∙_, subst, subst⁻¹}
+use mathlib.Core.List.{List}
 use denote.Ref.{now}
 use lib.IntN.{ℤ}
 use lib.ListN.{length, drop, set}
@@ -10,14 +10,10 @@ use mir.Syntax.{w32}
 use mir.Val.{SFits}
 use mir.Facts.{toZ-ofZ}
 use Rattle.words.specs.Words.{wordsOf}
-use Rattle.lists.specs.declared.numbers.Next
 use Rattle.lists.specs.Lists.{numbersOf}
-use Rattle.lists.specs.Next.{Says, Number}
+use Rattle.lists.specs.Next.{numbersNext}
 use Rattle.lists.specs.Placing.{Placing, none-placed, one-placed, full, all-placed}
-use types.Run.{OneOf, miss}
-use denote.Enum.Declared.{tagOf}
 use borrow.Author.Needs.{needs}
-use Rattle.lists.proofs.numbers.Next.{the-type}
 use Rattle.lists.proofs.numbers.set.Statement.{statement}
 use Rattle.lists.proofs.numbers.set.Tie as tie
 
@@ -26,13 +22,6 @@ Inv-loop list₀ line at₀ n₀ list at n = Placing list₀ (numbersOf (drop 1 
 
 abbrev μ-loop : tie.MeasureT-loop
 μ-loop list₀ line at₀ n₀ list at n = length list₀ - n
-
--- where the next word is no number, none is left
-no-number : (line : List ℕ) (from : ℕ) (r : Next.Next) → OneOf (1 ∷ 2 ∷ 3 ∷ []) (tagOf the-type r) → Says line from r → numbersOf (wordsOf (drop from line)) ≡ []
-no-number line from (Next.the-variants.Is n end) k s = absurd (miss (1 ∷ 2 ∷ 3 ∷ []) 0 tt k)
-no-number line from Next.the-variants.NotDecimal k s = s .numbers
-no-number line from Next.the-variants.Beyond k s = s .numbers
-no-number line from Next.the-variants.Nothing k s = s .numbers
 
 behind-first-requires : tie.Need-behind-first-requires Inv-loop μ-loop
 behind-first-requires c κs = search needs
@@ -49,14 +38,16 @@ next-number-requires c κs = search needs
 enum-known-number : tie.Need-enum-known-number Inv-loop μ-loop
 enum-known-number c = search needs
 
+enum-told : tie.Need-enum-told Inv-loop μ-loop
+enum-told c = search needs
+
 same-length : tie.Need-same-length Inv-loop μ-loop
-same-length c = c .before .before .before .loop .inv .as-long
+same-length c = c .before .before .before .before .loop .inv .as-long
 
 returns : tie.Need-returns Inv-loop μ-loop
 returns c =
-    let at = c .before .before .before in
-    let none = no-number _ _ (c .before .next-number .result) (c .match .keys2) (c .before .next-number .ensures) in
-    all-placed _ _ _ _ _ (at .loop .inv) none
+    let next = c .before .before in
+    all-placed _ _ _ _ _ (next .before .before .loop .inv) (next .next-number .ensures ∙ ap (numbersNext _) (c .enum-told .given .1))
 
 mul-number : tie.Need-mul-number Inv-loop μ-loop
 mul-number c = let p = c .before .before .before .before .before .loop .inv in search needs
@@ -78,9 +69,9 @@ loop-again c =
     let numbers = numbersOf (drop 1 (wordsOf (now (a .line)))) in
     let end = c .before .number .given .0 .1 .0 in
     let n = c .before .number .given .0 .0 in
-    let f : Number (now (a .line)) (l .at) n end = subst (Says (now (a .line)) (l .at)) (c .before .number .given .1) (c .before .before .before .next-number .ensures) in
     let fits : SFits w32 n = search needs in
-    let next = subst (λ (left : List ℤ). Placing (now (a .list)) numbers (l .list) (l .n) left) (f .numbers) (l .inv) in
+    let left = c .before .before .before .next-number .ensures ∙ ap (numbersNext (now (a .line))) (c .before .number .given .1) in
+    let next = subst (λ (ns : List ℤ). Placing (now (a .list)) numbers (l .list) (l .n) ns) left (l .inv) in
     subst⁻¹ (λ (z : ℤ). Placing (now (a .list)) numbers (set (l .list) (l .n) z) (l .n + 1) (numbersOf (wordsOf (drop end (now (a .line)))))) (toZ-ofZ fits)
     (one-placed _ _ _ _ _ _ next (omega arith))
 
@@ -100,6 +91,7 @@ set-spec =
     loop-holds
     next-number-requires
     enum-known-number
+    enum-told
     same-length
     returns
     mul-number
