@@ -1,8 +1,9 @@
 // What the line of each reply is made of. Its form and its cause are named by their places among the texts of `writing::append_reply`, from 0; what a form has no place for is not
 // written.
 ghost use mathlib.Core.Path.{_≡_};
+ghost use Rattle.answers.specs.Filling.{naturalAs};
 ghost use Rattle.replies.specs.Replies.{faultLine, lineOf};
-ghost use Rattle.replies.specs.Forms.{Says, naturals, numbers};
+ghost use Rattle.replies.specs.Forms.{Says, naturals, numbers, none};
 use crate::Parts;
 use crate::Reply;
 use answers::Signed;
@@ -28,6 +29,20 @@ fn with_numbers(form: usize, first: Signed, second: Signed, third: Signed) -> Pa
     }
 }
 
+// A line with one number.
+fn with_number(form: usize, number: Signed) -> Parts
+    ensures { λ r. ⌜ r ≡ numbers form number (naturalAs 0) (naturalAs 0) ⌝ }
+{
+    Parts {
+        form,
+        cause: 0,
+        first: number,
+        second: ZERO,
+        third: ZERO,
+        ends: 1,
+    }
+}
+
 // A line with a cause and up to two numbers that are not negative.
 fn with_naturals(form: usize, cause: usize, first: u64, second: u64) -> Parts
     ensures { λ r. ⌜ r ≡ naturals form cause first second ⌝ }
@@ -45,6 +60,20 @@ fn with_naturals(form: usize, cause: usize, first: u64, second: u64) -> Parts
         },
         third: ZERO,
         ends: 1,
+    }
+}
+
+// No line: its form is empty, and no LF ends it.
+fn nothing() -> Parts
+    ensures { λ r. ⌜ r ≡ none ⌝ }
+{
+    Parts {
+        form: 0,
+        cause: 0,
+        first: ZERO,
+        second: ZERO,
+        third: ZERO,
+        ends: 0,
     }
 }
 
@@ -67,14 +96,7 @@ pub(crate) fn parts_of(reply: Reply) -> Parts
     ensures { λ r. ⌜ Says r (lineOf reply) ⌝ }
 {
     match reply {
-        Reply::Silent => Parts {
-            form: 0,
-            cause: 0,
-            first: ZERO,
-            second: ZERO,
-            third: ZERO,
-            ends: 0,
-        },
+        Reply::Silent => nothing(),
         Reply::Wrong(line, fault) => parts_of_fault(line, fault),
         Reply::Refused(r) => with_naturals(9, r.number as usize, r.number as u64, r.place as u64),
         Reply::Done => with_naturals(10, 0, 0, 0),
@@ -83,8 +105,8 @@ pub(crate) fn parts_of(reply: Reply) -> Parts
         Reply::Falling => with_naturals(13, 0, 0, 0),
         Reply::Flat => with_naturals(14, 0, 0, 0),
         Reply::Bends => with_naturals(15, 0, 0, 0),
-        Reply::Value(v) => with_numbers(16, answers::whole32(v), ZERO, ZERO),
-        Reply::Dwell(level) => with_numbers(17, level, ZERO, ZERO),
+        Reply::Value(v) => with_number(16, answers::whole32(v)),
+        Reply::Dwell(level) => with_number(17, level),
         Reply::Move(m) => with_numbers(18, m.left, m.numerator, m.denominator),
     }
 }

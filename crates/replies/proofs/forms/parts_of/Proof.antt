@@ -15,6 +15,9 @@ use Rattle.replies.proofs.forms.parts_of.Tie as tie
 enum-told : tie.Need-enum-told
 enum-told c = search needs
 
+nothing-requires : tie.Need-nothing-requires
+nothing-requires c κs = search needs
+
 enum-known-reply : tie.Need-enum-known-reply
 enum-known-reply c = search needs
 
@@ -75,24 +78,24 @@ enum-known-reply-4 c = search needs
 whole32-requires : tie.Need-whole32-requires
 whole32-requires c κs = search needs
 
-with-numbers-requires : tie.Need-with-numbers-requires
-with-numbers-requires c κs = search needs
+with-number-requires : tie.Need-with-number-requires
+with-number-requires c κs = search needs
 
 enum-known-reply-5 : tie.Need-enum-known-reply-5
 enum-known-reply-5 c = search needs
 
-with-numbers-requires-2 : tie.Need-with-numbers-requires-2
-with-numbers-requires-2 c κs = search needs
+with-number-requires-2 : tie.Need-with-number-requires-2
+with-number-requires-2 c κs = search needs
 
 enum-known-reply-6 : tie.Need-enum-known-reply-6
 enum-known-reply-6 c = search needs
 
-with-numbers-requires-3 : tie.Need-with-numbers-requires-3
-with-numbers-requires-3 c κs = search needs
+with-numbers-requires : tie.Need-with-numbers-requires
+with-numbers-requires c κs = search needs
 
 returns : tie.Need-returns
 unfolding filled
-returns c = says lineOf refl (c .enum-told .given .1) refl
+returns c = says lineOf (c .nothing .ensures) (c .before .enum-told .given .1) refl
 
 returns-2 : tie.Need-returns-2
 returns-2 c = subst⁻¹ (λ (reply : Reply). Says (c .parts-of-fault .result) (lineOf reply)) (c .before .before .reply .given .1) (c .parts-of-fault .ensures)
@@ -131,21 +134,22 @@ returns-10 c =
     let v = c .before .before in
     let fits : SFits w32 (v .before .reply4 .given .0 .0) = record { sfits = v .known-told4 .given .0 .1 } in
     let number = c .before .whole32 .ensures ∙ ap wholeAs (toZ-ofZ fits) in
-    says lineOf (c .with-numbers .ensures ∙ ap (λ (first : Signed). numbers 16 first (naturalAs 0) (naturalAs 0)) number) (v .before .reply4 .given .1) refl
+    says lineOf (c .with-number .ensures ∙ ap (λ (first : Signed). numbers 16 first (naturalAs 0) (naturalAs 0)) number) (v .before .reply4 .given .1) refl
 
 returns-11 : tie.Need-returns-11
 unfolding filled
-returns-11 c = says lineOf (c .with-numbers2 .ensures) (c .before .before .reply5 .given .1) refl
+returns-11 c = says lineOf (c .with-number2 .ensures) (c .before .before .reply5 .given .1) refl
 
 returns-12 : tie.Need-returns-12
 unfolding filled
-returns-12 c = says lineOf (c .with-numbers3 .ensures) (c .before .before .reply6 .given .1) refl
+returns-12 c = says lineOf (c .with-numbers .ensures) (c .before .before .reply6 .given .1) refl
 
 pub parts-of-spec : {M : Type 1} → statement M
 parts-of-spec =
     tie.close
     (tie.spec
     enum-told
+    nothing-requires
     enum-known-reply
     parts-of-fault-requires
     enum-known-reply-2
@@ -166,11 +170,11 @@ parts-of-spec =
     with-naturals-requires-7
     enum-known-reply-4
     whole32-requires
-    with-numbers-requires
+    with-number-requires
     enum-known-reply-5
-    with-numbers-requires-2
+    with-number-requires-2
     enum-known-reply-6
-    with-numbers-requires-3
+    with-numbers-requires
     returns
     returns-2
     returns-3

@@ -1,11 +1,12 @@
--- `replies::writing::append_reply` meets its contract.
+-- `replies::writing::append_reply` meets its contract: its texts, taken apart, are the forms and the causes, and what it takes from them is put together.
 use mathlib.Core.Path.{refl, subst}
 use mathlib.Core.List.{List}
 use Prim.Native.Nat.{ℕ}
 use denote.Ref.{now}
 use Rattle.words.specs.Lines.{Appended}
 use Rattle.words.specs.Joining.{both}
-use Rattle.replies.specs.Forms.{textsOf, put-together}
+use Rattle.replies.specs.Apart.{textsOf}
+use Rattle.replies.specs.Forms.{put-together}
 use borrow.Author.Needs.{needs}
 use Rattle.replies.proofs.writing.append_reply.Statement.{statement}
 use Rattle.replies.proofs.writing.append_reply.Tie as tie
