@@ -8,7 +8,7 @@ use Rattle.decimals.specs.Text.{spelled}
 use Rattle.answers.specs.Filling.{naturalAs, wholeAs, filled}
 use Rattle.commands.specs.declared.Fault.the-variants.{TooLong, NoCommand, TooFew, TooMany, NoList, NotDecimal, Beyond32, Beyond64}
 use Rattle.replies.specs.declared.Reply.the-variants.{Silent, Wrong, Refused, Done, Count, Rising, Falling, Flat, Bends, Value, Dwell, Move}
-use Rattle.replies.specs.Replies.{lineOf}
+use Rattle.replies.specs.Replies.{faultLine, lineOf}
 
 pub record Worked : Type 0 where
   -- no byte
@@ -67,7 +67,7 @@ pub record Worked : Type 0 where
   pub move : lineOf (Move (record { left = wholeAs (negsuc 2); numerator = record { negative = true; size = 0 }; denominator = naturalAs 256 })) ≡ 109 ∷ 111 ∷ 118 ∷ 101 ∷ 32 ∷ 45 ∷ 51 ∷ 32 ∷ 45 ∷ 48 ∷ 32 ∷ 50 ∷ 53 ∷ 54 ∷ 10 ∷ []
 
 pub worked : Worked
-unfolding filled spelled
+unfolding lineOf faultLine filled spelled
 worked =
     record {
       silent = refl;

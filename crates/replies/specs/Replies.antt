@@ -10,7 +10,7 @@ use Rattle.replies.specs.declared.Reply.{Reply}
 use Rattle.replies.specs.declared.Reply.the-variants.{Silent, Wrong, Refused, Done, Count, Rising, Falling, Flat, Bends, Value, Dwell, Move}
 
 -- a form with its numbers filled in, and an LF; it has no cause
-abbrev pub line : List ℕ → List Signed → List ℕ
+abbrev line : List ℕ → List Signed → List ℕ
 line form numbers = filled form [] numbers ++ (10 ∷ [])
 
 -- ---- what is wrong with line L of the input
@@ -47,7 +47,7 @@ beyond32 = 63 ∷ 32 ∷ 108 ∷ 105 ∷ 110 ∷ 101 ∷ 32 ∷ 35 ∷ 58 ∷ 32
 abbrev pub beyond64 : List ℕ
 beyond64 = 63 ∷ 32 ∷ 108 ∷ 105 ∷ 110 ∷ 101 ∷ 32 ∷ 35 ∷ 58 ∷ 32 ∷ 110 ∷ 117 ∷ 109 ∷ 98 ∷ 101 ∷ 114 ∷ 32 ∷ 35 ∷ 32 ∷ 100 ∷ 111 ∷ 101 ∷ 115 ∷ 32 ∷ 110 ∷ 111 ∷ 116 ∷ 32 ∷ 102 ∷ 105 ∷ 116 ∷ 32 ∷ 54 ∷ 52 ∷ 32 ∷ 98 ∷ 105 ∷ 116 ∷ 115 ∷ []
 
-abbrev pub faultLine : ℕ → Fault → List ℕ
+unfoldable pub faultLine : ℕ → Fault → List ℕ
 faultLine n TooLong = line tooLong (naturalAs n ∷ [])
 faultLine n NoCommand = line noCommand (naturalAs n ∷ [])
 faultLine n TooFew = line tooFew (naturalAs n ∷ [])
@@ -153,7 +153,7 @@ move = 109 ∷ 111 ∷ 118 ∷ 101 ∷ 32 ∷ 35 ∷ 32 ∷ 35 ∷ 32 ∷ 35 ∷
 
 -- ---- the line of each reply; a silent one has no byte
 
-abbrev pub lineOf : Reply → List ℕ
+unfoldable pub lineOf : Reply → List ℕ
 lineOf Silent = []
 lineOf (Wrong n fault) = faultLine n fault
 lineOf (Refused r) = filled refused (causeOf (r .number)) (naturalAs (r .number) ∷ naturalAs (r .place) ∷ []) ++ (10 ∷ [])

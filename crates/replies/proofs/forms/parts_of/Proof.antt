@@ -94,42 +94,43 @@ with-numbers-requires : tie.Need-with-numbers-requires
 with-numbers-requires c κs = search needs
 
 returns : tie.Need-returns
-unfolding filled
+unfolding filled lineOf
 returns c = says lineOf (c .nothing .ensures) (c .before .enum-told .given .1) refl
 
 returns-2 : tie.Need-returns-2
+unfolding lineOf
 returns-2 c = subst⁻¹ (λ (reply : Reply). Says (c .parts-of-fault .result) (lineOf reply)) (c .before .before .reply .given .1) (c .parts-of-fault .ensures)
 
 returns-3 : tie.Need-returns-3
-unfolding filled
+unfolding filled lineOf
 returns-3 c = says lineOf (c .with-naturals .ensures) (c .before .before .before .before .reply2 .given .1) refl
 
 returns-4 : tie.Need-returns-4
-unfolding filled
+unfolding filled lineOf
 returns-4 c = says lineOf (c .with-naturals2 .ensures) (c .before .enum-told2 .given .1) refl
 
 returns-5 : tie.Need-returns-5
-unfolding filled
+unfolding filled lineOf
 returns-5 c = says lineOf (c .with-naturals3 .ensures) (c .before .before .reply3 .given .1) refl
 
 returns-6 : tie.Need-returns-6
-unfolding filled
+unfolding filled lineOf
 returns-6 c = says lineOf (c .with-naturals4 .ensures) (c .before .enum-told3 .given .1) refl
 
 returns-7 : tie.Need-returns-7
-unfolding filled
+unfolding filled lineOf
 returns-7 c = says lineOf (c .with-naturals5 .ensures) (c .before .enum-told4 .given .1) refl
 
 returns-8 : tie.Need-returns-8
-unfolding filled
+unfolding filled lineOf
 returns-8 c = says lineOf (c .with-naturals6 .ensures) (c .before .enum-told5 .given .1) refl
 
 returns-9 : tie.Need-returns-9
-unfolding filled
+unfolding filled lineOf
 returns-9 c = says lineOf (c .with-naturals7 .ensures) (c .before .enum-told6 .given .1) refl
 
 returns-10 : tie.Need-returns-10
-unfolding filled
+unfolding filled lineOf
 returns-10 c =
     let v = c .before .before in
     let fits : SFits w32 (v .before .reply4 .given .0 .0) = record { sfits = v .known-told4 .given .0 .1 } in
@@ -137,11 +138,11 @@ returns-10 c =
     says lineOf (c .with-number .ensures ∙ ap (λ (first : Signed). numbers 16 first (naturalAs 0) (naturalAs 0)) number) (v .before .reply4 .given .1) refl
 
 returns-11 : tie.Need-returns-11
-unfolding filled
+unfolding filled lineOf
 returns-11 c = says lineOf (c .with-number2 .ensures) (c .before .before .reply5 .given .1) refl
 
 returns-12 : tie.Need-returns-12
-unfolding filled
+unfolding filled lineOf
 returns-12 c = says lineOf (c .with-numbers .ensures) (c .before .before .reply6 .given .1) refl
 
 pub parts-of-spec : {M : Type 1} → statement M

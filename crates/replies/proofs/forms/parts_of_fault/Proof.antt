@@ -56,35 +56,35 @@ with-naturals-requires-8 : tie.Need-with-naturals-requires-8
 with-naturals-requires-8 c κs = search needs
 
 returns : tie.Need-returns
-unfolding filled
+unfolding filled faultLine
 returns c = says (faultLine _) (c .with-naturals .ensures) (c .before .enum-told .given .1) refl
 
 returns-2 : tie.Need-returns-2
-unfolding filled
+unfolding filled faultLine
 returns-2 c = says (faultLine _) (c .with-naturals2 .ensures) (c .before .enum-told2 .given .1) refl
 
 returns-3 : tie.Need-returns-3
-unfolding filled
+unfolding filled faultLine
 returns-3 c = says (faultLine _) (c .with-naturals3 .ensures) (c .before .enum-told3 .given .1) refl
 
 returns-4 : tie.Need-returns-4
-unfolding filled
+unfolding filled faultLine
 returns-4 c = says (faultLine _) (c .with-naturals4 .ensures) (c .before .enum-told4 .given .1) refl
 
 returns-5 : tie.Need-returns-5
-unfolding filled
+unfolding filled faultLine
 returns-5 c = says (faultLine _) (c .with-naturals5 .ensures) (c .before .enum-told5 .given .1) refl
 
 returns-6 : tie.Need-returns-6
-unfolding filled
+unfolding filled faultLine
 returns-6 c = says (faultLine _) (c .with-naturals6 .ensures) (c .before .before .fault .given .1) refl
 
 returns-7 : tie.Need-returns-7
-unfolding filled
+unfolding filled faultLine
 returns-7 c = says (faultLine _) (c .with-naturals7 .ensures) (c .before .before .fault2 .given .1) refl
 
 returns-8 : tie.Need-returns-8
-unfolding filled
+unfolding filled faultLine
 returns-8 c = says (faultLine _) (c .with-naturals8 .ensures) (c .before .before .fault3 .given .1) refl
 
 pub parts-of-fault-spec : {M : Type 1} → statement M
