@@ -19,6 +19,9 @@ use Rattle.decimals.specs.declared.reading.Number as Number
 use Rattle.decimals.specs.declared.reading.Number32 as Number32
 use Rattle.lists.specs.Lists.{readingFrom, numbersOf, spaced}
 use Rattle.lists.specs.declared.outcome.Reading.the-variants.{Numbers}
+use Rattle.answers.specs.Filling.{filled}
+use Rattle.replies.specs.declared.Reply.the-variants.{Done}
+use Rattle.replies.specs.Replies.{lineOf}
 use Rattle.position.specs.declared.Sought.the-variants.{On}
 use Rattle.position.specs.Spot.{on}
 use Rattle.demands.specs.Contracts.{list, SaysMonotone, HasCoefficients, Steps, Renews, Seeks}
@@ -46,6 +49,7 @@ use Rattle.lines.proofs.take.Reads as lines·take
 use Rattle.lists.proofs.reading.Reads as lists·reading
 use Rattle.lists.proofs.set.Reads as lists·set
 use Rattle.lists.proofs.append_row.Reads as lists·append_row
+use Rattle.replies.proofs.append_reply.Reads as replies·append_reply
 
 abbrev pub bytes : List ℕ → RefT (List ℕ)
 bytes bs = record { ptr = (0, 0); name = 0; now = bs }
@@ -90,6 +94,8 @@ pub record WorkedBelow : Type 0 where
   pub reading : lists·reading.Post ([], tt) (bytes command, (1, tt)) Numbers (bytes command, (1, tt))
   pub set : lists·set.Post ([], ([], tt)) (list (pos 0 ∷ pos 0 ∷ pos 1 ∷ []), (bytes command, tt)) 2 (list (pos 5 ∷ negsuc 6 ∷ pos 1 ∷ []), (bytes command, tt))
   pub append-row : lists·append_row.Post ([], ([], tt)) (bytes buffer, (0, (list (pos 5 ∷ negsuc 6 ∷ []), tt))) 4 (bytes (53 ∷ 32 ∷ 45 ∷ 55 ∷ []), (0, (list (pos 5 ∷ negsuc 6 ∷ []), tt)))
+  -- `ok`, LF put behind `=`
+  pub append-reply : replies·append_reply.Post ([], tt) (bytes buffer, (1, (Done, tt))) 4 (bytes (61 ∷ 111 ∷ 107 ∷ 10 ∷ []), (1, (Done, tt)))
   -- 1, 1, 256, 256 is monotone and a line; the steps, renewed slopes and a position of (0,0), (1,1), (2,4), (3,7) and of (0,0), (3,−10)
   pub is-monotone : SaysMonotone (pos 1) (pos 1) (pos 256) (pos 256) true
   pub coefficients : HasCoefficients (pos 1) (pos 1) (pos 256) (pos 256) (pos 256) (pos 0) (pos 0)
@@ -98,7 +104,7 @@ pub record WorkedBelow : Type 0 where
   pub seek : Seeks two (pos 1) (On (record { piece = 0; left = pos 0; h = pos 3; z = negsuc 9; m = negsuc 852; n = negsuc 852; t = pos 1 }))
 
 pub worked-below : WorkedBelow
-unfolding front wordsAfter areDigits natural spelled readingFrom numbersOf spaced
+unfolding front wordsAfter areDigits natural spelled readingFrom numbersOf spaced lineOf filled
 worked-below =
     record {
       difference = refl;
@@ -122,6 +128,7 @@ worked-below =
       reading = refl;
       set = record { counted = refl; placed = refl };
       append-row = record { counted = refl; buffer = refl };
+      append-reply = record { counted = refl; buffer = refl };
       is-monotone = holds (monotone-rising (ltZ-yes tt) (short-accepts (line (leZ-yes tt) (leZ-yes tt) (leZ-yes tt))));
       coefficients = record { first-is = refl; second-is = refl; third-is = refl };
       step = refl;
