@@ -23,6 +23,8 @@ use Rattle.answers.specs.Texts.{entryOf}
 use Rattle.lists.specs.Lists.{numbersOf, spaced}
 use Rattle.commands.specs.declared.Command as Command
 use Rattle.commands.specs.Examples.{at-one, worked}
+use Rattle.replies.specs.declared.Reply.the-variants.{Done}
+use Rattle.replies.specs.Replies.{lineOf}
 use Rattle.position.specs.declared.Sought.the-variants.{On}
 use Rattle.position.specs.Spot.{on}
 use Rattle.demands.specs.Contracts.{list, SaysMonotone, HasCoefficients, Steps, Renews, Seeks}
@@ -48,12 +50,14 @@ use Rattle.decimals.proofs.append_whole.Reads as decimals·append_whole
 use Rattle.decimals.proofs.append_whole32.Reads as decimals·append_whole32
 use Rattle.answers.proofs.natural.Reads as answers·natural
 use Rattle.answers.proofs.whole.Reads as answers·whole
+use Rattle.answers.proofs.whole32.Reads as answers·whole32
 use Rattle.answers.proofs.fill.Reads as answers·fill
 use Rattle.answers.proofs.entry.Reads as answers·entry
 use Rattle.lines.proofs.take.Reads as lines·take
 use Rattle.lists.proofs.set.Reads as lists·set
 use Rattle.lists.proofs.append_row.Reads as lists·append_row
 use Rattle.commands.proofs.parse.Reads as commands·parse
+use Rattle.replies.proofs.append_reply.Reads as replies·append_reply
 
 abbrev pub bytes : List ℕ → RefT (List ℕ)
 bytes bs = record { ptr = (0, 0); name = 0; now = bs }
@@ -106,9 +110,10 @@ pub record WorkedBelow : Type 0 where
   pub append-natural : decimals·append_natural.Post ([], tt) (bytes buffer, (1, (7, tt))) 2 (bytes (61 ∷ 55 ∷ 0 ∷ 0 ∷ []), (1, (7, tt)))
   pub append-whole : decimals·append_whole.Post ([], tt) (bytes buffer, (1, (negsuc 6, tt))) 3 (bytes (61 ∷ 45 ∷ 55 ∷ 0 ∷ []), (1, (negsuc 6, tt)))
   pub append-whole32 : decimals·append_whole32.Post ([], tt) (bytes buffer, (1, (negsuc 6, tt))) 3 (bytes (61 ∷ 45 ∷ 55 ∷ 0 ∷ []), (1, (negsuc 6, tt)))
-  -- 7 and −2⁶³ as they are written; `$,####` with the text `a` and the numbers 7, −0 and 3 is `a,7-03`; of `a`, LF, `b` the second entry is `b`
+  -- 7, −2⁶³ and −2³¹ as they are written; `$,####` with the text `a` and the numbers 7, −0 and 3 is `a,7-03`; of `a`, LF, `b` the second entry is `b`
   pub natural-as : answers·natural.Post tt (7, tt) seven (7, tt)
   pub whole-as : answers·whole.Post tt (negsuc 9223372036854775807, tt) (record { negative = true; size = 9223372036854775808 }) (negsuc 9223372036854775807, tt)
+  pub whole32-as : answers·whole32.Post tt (negsuc 2147483647, tt) (record { negative = true; size = 2147483648 }) (negsuc 2147483647, tt)
   pub fill : answers·fill.Post ([], ([], ([], tt))) (bytes (61 ∷ 0 ∷ 0 ∷ 0 ∷ 0 ∷ 0 ∷ 0 ∷ 0 ∷ []), (1, (bytes template, (bytes (97 ∷ []), (seven, (minus-zero, (three, tt))))))) 7
       (bytes (61 ∷ 97 ∷ 44 ∷ 55 ∷ 45 ∷ 48 ∷ 51 ∷ 0 ∷ []), (1, (bytes template, (bytes (97 ∷ []), (seven, (minus-zero, (three, tt)))))))
   pub entry : answers·entry.Post ([], tt) (bytes (97 ∷ 10 ∷ 98 ∷ []), (1, tt)) (bytes (98 ∷ [])) (bytes (97 ∷ 10 ∷ 98 ∷ []), (1, tt))
@@ -118,6 +123,8 @@ pub record WorkedBelow : Type 0 where
   pub append-row : lists·append_row.Post ([], ([], tt)) (bytes buffer, (0, (list (pos 5 ∷ negsuc 6 ∷ []), tt))) 4 (bytes (53 ∷ 32 ∷ 45 ∷ 55 ∷ []), (0, (list (pos 5 ∷ negsuc 6 ∷ []), tt)))
   -- `at`, tab, `1`, space asks for position 1
   pub parse : commands·parse.Post ([], tt) (bytes at-one, tt) (Command.the-variants.At (pos 1)) (bytes at-one, tt)
+  -- `ok`, LF put behind `=`
+  pub append-reply : replies·append_reply.Post ([], tt) (bytes buffer, (1, (Done, tt))) 4 (bytes (61 ∷ 111 ∷ 107 ∷ 10 ∷ []), (1, (Done, tt)))
   -- 1, 1, 256, 256 is monotone and a line; the steps, renewed slopes and a position of (0,0), (1,1), (2,4), (3,7) and of (0,0), (3,−10)
   pub is-monotone : SaysMonotone (pos 1) (pos 1) (pos 256) (pos 256) true
   pub coefficients : HasCoefficients (pos 1) (pos 1) (pos 256) (pos 256) (pos 256) (pos 0) (pos 0)
@@ -126,7 +133,7 @@ pub record WorkedBelow : Type 0 where
   pub seek : Seeks two (pos 1) (On (record { piece = 0; left = pos 0; h = pos 3; z = negsuc 9; m = negsuc 852; n = negsuc 852; t = pos 1 }))
 
 pub worked-below : WorkedBelow
-unfolding front wordsAfter areDigits natural spelled filled entryOf numbersOf spaced
+unfolding front wordsAfter areDigits natural spelled filled entryOf numbersOf spaced lineOf
 worked-below =
     record {
       difference = refl;
@@ -148,12 +155,14 @@ worked-below =
       append-whole32 = record { counted = refl; buffer = refl };
       natural-as = refl;
       whole-as = refl;
+      whole32-as = refl;
       fill = record { counted = refl; buffer = refl };
       entry = refl;
       take = record { gathered = record { counted = refl; buffer = refl }; following = refl; ended = refl };
       set = record { counted = refl; placed = refl };
       append-row = record { counted = refl; buffer = refl };
       parse = sym (worked .at-one-asks);
+      append-reply = record { counted = refl; buffer = refl };
       is-monotone = holds (monotone-rising (ltZ-yes tt) (short-accepts (line (leZ-yes tt) (leZ-yes tt) (leZ-yes tt))));
       coefficients = record { first-is = refl; second-is = refl; third-is = refl };
       step = refl;

@@ -26,6 +26,7 @@ pub mod WrongDrives
 pub mod WrongLists
 pub mod WrongNumbers
 pub mod WrongPieces
+pub mod WrongReplies
 pub mod WrongTables
 pub mod WrongText
 pub mod WrongTies

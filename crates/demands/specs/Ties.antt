@@ -55,6 +55,7 @@ use Rattle.lines.proofs.take.Reads as lines·take
 use Rattle.lists.proofs.set.Reads as lists·set
 use Rattle.lists.proofs.append_row.Reads as lists·append_row
 use Rattle.commands.proofs.parse.Reads as commands·parse
+use Rattle.replies.proofs.append_reply.Reads as replies·append_reply
 use Rattle.rules.proofs.count_within.Reads as rules·count_within
 use Rattle.rules.proofs.width_within.Reads as rules·width_within
 use Rattle.rules.proofs.rise_within.Reads as rules·rise_within
@@ -239,6 +240,11 @@ lists·append_row-tied = (λ κs a. tt, λ κs a r s x y p q. λ i. (one-count p
 
 pub commands·parse-tied : Tied commands·parse.Pre commands·parse.Post result
 commands·parse-tied = (λ κs a. tt, λ κs a r s x y p q. p ∙ sym q)
+
+-- ---- replies
+
+pub replies·append_reply-tied : Tied replies·append_reply.Pre replies·append_reply.Post with-first
+replies·append_reply-tied = (λ κs a. tt, λ κs a r s x y p q. λ i. (one-count p q i, one-buffer p q i))
 
 -- ---- rules
 

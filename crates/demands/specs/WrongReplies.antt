@@ -1,0 +1,313 @@
+-- Wrong programs with the replies of the workbench, each refuted by the line that it would put into an empty buffer for one reply. A comment has the text of that line, and why it is wrong.
+use Prim.Native.Nat.{ℕ}
+use mathlib.Core.Path.{refl, ap}
+use mathlib.Core.Bool.{true, false}
+use mathlib.Core.List.{List, [], _∷_, _++_}
+use lib.IntN.{ℤ, pos, negsuc}
+use lib.ListN.{length}
+use Rattle.decimals.specs.Text.{spelled}
+use Rattle.answers.specs.Filling.{filled}
+use Rattle.commands.specs.declared.Fault.the-variants.{TooLong, NoCommand, TooFew, TooMany, NoList, NotDecimal, Beyond32, Beyond64}
+use Rattle.replies.specs.declared.Reply.{Reply}
+use Rattle.replies.specs.declared.Reply.the-variants.{Silent, Wrong, Refused, Done, Count, Rising, Falling, Flat, Bends, Value, Dwell, Move}
+use Rattle.replies.specs.Replies.{faultLine, lineOf}
+use Rattle.demands.specs.InstancesBelow.{bytes}
+use Rattle.demands.specs.Refuting.{lists-differ}
+use Rattle.replies.proofs.append_reply.Reads as replies·append_reply
+
+-- `append_reply`, of a buffer of which `held` bytes are held
+abbrev append : (before : List ℕ) (held : ℕ) → Reply → (after : List ℕ) (r : ℕ) → Type 0
+append before held reply after r = replies·append_reply.Post ([], tt) (bytes before, (held, (reply, tt))) r (bytes after, (held, (reply, tt)))
+
+-- a buffer of `.` that has room for one byte more than a line
+abbrev room : List ℕ → List ℕ
+room [] = 46 ∷ []
+room (b ∷ bs) = 46 ∷ room bs
+
+-- the reply is written as this line, and the byte behind it stays
+abbrev writes : Reply → List ℕ → Type 0
+writes reply line = append (room line) 0 reply (line ++ (46 ∷ [])) (length line)
+
+abbrev integers : List ℕ → List ℤ
+integers [] = []
+integers (n ∷ ns) = pos n ∷ integers ns
+
+-- ---- the line of a fault: its number, and what is wrong with it
+
+-- `? line 11: too few words`: the line is 12
+pub fault-of-another-line : writes (Wrong 12 TooFew) (63 ∷ 32 ∷ 108 ∷ 105 ∷ 110 ∷ 101 ∷ 32 ∷ 49 ∷ 49 ∷ 58 ∷ 32 ∷ 116 ∷ 111 ∷ 111 ∷ 32 ∷ 102 ∷ 101 ∷ 119 ∷ 32 ∷ 119 ∷ 111 ∷ 114 ∷ 100 ∷ 115 ∷ 10 ∷ []) → ⊥
+unfolding lineOf faultLine filled spelled
+fault-of-another-line p = lists-differ tt (ap integers (p .buffer))
+
+-- `too few words`: nor is it left out
+pub fault-without-its-line : writes (Wrong 12 TooFew) (116 ∷ 111 ∷ 111 ∷ 32 ∷ 102 ∷ 101 ∷ 119 ∷ 32 ∷ 119 ∷ 111 ∷ 114 ∷ 100 ∷ 115 ∷ 10 ∷ []) → ⊥
+unfolding lineOf faultLine filled spelled
+fault-without-its-line p = lists-differ tt (ap integers (p .buffer))
+
+-- `? line 12: number 1 is not a whole decimal number`: the number is 2
+pub fault-of-another-number : writes (Wrong 12 (NotDecimal 2)) (63 ∷ 32 ∷ 108 ∷ 105 ∷ 110 ∷ 101 ∷ 32 ∷ 49 ∷ 50 ∷ 58 ∷ 32 ∷ 110 ∷ 117 ∷ 109 ∷ 98 ∷ 101 ∷ 114 ∷ 32 ∷ 49 ∷ 32 ∷ 105 ∷ 115 ∷ 32 ∷ 110 ∷ 111 ∷ 116 ∷ 32 ∷ 97 ∷ 32 ∷ 119 ∷ 104 ∷ 111 ∷ 108 ∷ 101 ∷ 32 ∷ 100 ∷ 101 ∷ 99 ∷ 105 ∷ 109 ∷ 97 ∷ 108 ∷ 32 ∷ 110 ∷ 117 ∷ 109 ∷ 98 ∷ 101 ∷ 114 ∷ 10 ∷ []) → ⊥
+unfolding lineOf faultLine filled spelled
+fault-of-another-number p = lists-differ tt (ap integers (p .buffer))
+
+-- `? line 2: number 12 is not a whole decimal number`: line 12, number 2
+pub line-and-number-exchanged : writes (Wrong 12 (NotDecimal 2)) (63 ∷ 32 ∷ 108 ∷ 105 ∷ 110 ∷ 101 ∷ 32 ∷ 50 ∷ 58 ∷ 32 ∷ 110 ∷ 117 ∷ 109 ∷ 98 ∷ 101 ∷ 114 ∷ 32 ∷ 49 ∷ 50 ∷ 32 ∷ 105 ∷ 115 ∷ 32 ∷ 110 ∷ 111 ∷ 116 ∷ 32 ∷ 97 ∷ 32 ∷ 119 ∷ 104 ∷ 111 ∷ 108 ∷ 101 ∷ 32 ∷ 100 ∷ 101 ∷ 99 ∷ 105 ∷ 109 ∷ 97 ∷ 108 ∷ 32 ∷ 110 ∷ 117 ∷ 109 ∷ 98 ∷ 101 ∷ 114 ∷ 10 ∷ []) → ⊥
+unfolding lineOf faultLine filled spelled
+line-and-number-exchanged p = lists-differ tt (ap integers (p .buffer))
+
+-- `? line 1: number 3 does not fit 64 bits`: 32 bits
+pub beyond-32-told-as-64 : writes (Wrong 1 (Beyond32 3)) (63 ∷ 32 ∷ 108 ∷ 105 ∷ 110 ∷ 101 ∷ 32 ∷ 49 ∷ 58 ∷ 32 ∷ 110 ∷ 117 ∷ 109 ∷ 98 ∷ 101 ∷ 114 ∷ 32 ∷ 51 ∷ 32 ∷ 100 ∷ 111 ∷ 101 ∷ 115 ∷ 32 ∷ 110 ∷ 111 ∷ 116 ∷ 32 ∷ 102 ∷ 105 ∷ 116 ∷ 32 ∷ 54 ∷ 52 ∷ 32 ∷ 98 ∷ 105 ∷ 116 ∷ 115 ∷ 10 ∷ []) → ⊥
+unfolding lineOf faultLine filled spelled
+beyond-32-told-as-64 p = lists-differ tt (ap integers (p .buffer))
+
+-- `? line 1: number 3 does not fit 32 bits`: 64 bits
+pub beyond-64-told-as-32 : writes (Wrong 1 (Beyond64 3)) (63 ∷ 32 ∷ 108 ∷ 105 ∷ 110 ∷ 101 ∷ 32 ∷ 49 ∷ 58 ∷ 32 ∷ 110 ∷ 117 ∷ 109 ∷ 98 ∷ 101 ∷ 114 ∷ 32 ∷ 51 ∷ 32 ∷ 100 ∷ 111 ∷ 101 ∷ 115 ∷ 32 ∷ 110 ∷ 111 ∷ 116 ∷ 32 ∷ 102 ∷ 105 ∷ 116 ∷ 32 ∷ 51 ∷ 50 ∷ 32 ∷ 98 ∷ 105 ∷ 116 ∷ 115 ∷ 10 ∷ []) → ⊥
+unfolding lineOf faultLine filled spelled
+beyond-64-told-as-32 p = lists-differ tt (ap integers (p .buffer))
+
+-- `? line 1: number 3 does not fit 32 bits`: it is not decimal
+pub no-number-told-as-beyond : writes (Wrong 1 (NotDecimal 3)) (63 ∷ 32 ∷ 108 ∷ 105 ∷ 110 ∷ 101 ∷ 32 ∷ 49 ∷ 58 ∷ 32 ∷ 110 ∷ 117 ∷ 109 ∷ 98 ∷ 101 ∷ 114 ∷ 32 ∷ 51 ∷ 32 ∷ 100 ∷ 111 ∷ 101 ∷ 115 ∷ 32 ∷ 110 ∷ 111 ∷ 116 ∷ 32 ∷ 102 ∷ 105 ∷ 116 ∷ 32 ∷ 51 ∷ 50 ∷ 32 ∷ 98 ∷ 105 ∷ 116 ∷ 115 ∷ 10 ∷ []) → ⊥
+unfolding lineOf faultLine filled spelled
+no-number-told-as-beyond p = lists-differ tt (ap integers (p .buffer))
+
+-- `? line 1: too many words`: there are too few
+pub too-few-told-as-too-many : writes (Wrong 1 TooFew) (63 ∷ 32 ∷ 108 ∷ 105 ∷ 110 ∷ 101 ∷ 32 ∷ 49 ∷ 58 ∷ 32 ∷ 116 ∷ 111 ∷ 111 ∷ 32 ∷ 109 ∷ 97 ∷ 110 ∷ 121 ∷ 32 ∷ 119 ∷ 111 ∷ 114 ∷ 100 ∷ 115 ∷ 10 ∷ []) → ⊥
+unfolding lineOf faultLine filled spelled
+too-few-told-as-too-many p = lists-differ tt (ap integers (p .buffer))
+
+-- `? line 1: too few words`: there are too many
+pub too-many-told-as-too-few : writes (Wrong 1 TooMany) (63 ∷ 32 ∷ 108 ∷ 105 ∷ 110 ∷ 101 ∷ 32 ∷ 49 ∷ 58 ∷ 32 ∷ 116 ∷ 111 ∷ 111 ∷ 32 ∷ 102 ∷ 101 ∷ 119 ∷ 32 ∷ 119 ∷ 111 ∷ 114 ∷ 100 ∷ 115 ∷ 10 ∷ []) → ⊥
+unfolding lineOf faultLine filled spelled
+too-many-told-as-too-few p = lists-differ tt (ap integers (p .buffer))
+
+-- `? line 1: no such command`: the list is unknown
+pub no-list-told-as-no-command : writes (Wrong 1 NoList) (63 ∷ 32 ∷ 108 ∷ 105 ∷ 110 ∷ 101 ∷ 32 ∷ 49 ∷ 58 ∷ 32 ∷ 110 ∷ 111 ∷ 32 ∷ 115 ∷ 117 ∷ 99 ∷ 104 ∷ 32 ∷ 99 ∷ 111 ∷ 109 ∷ 109 ∷ 97 ∷ 110 ∷ 100 ∷ 10 ∷ []) → ⊥
+unfolding lineOf faultLine filled spelled
+no-list-told-as-no-command p = lists-differ tt (ap integers (p .buffer))
+
+-- `? line 1: no such list`: the command is unknown
+pub no-command-told-as-no-list : writes (Wrong 1 NoCommand) (63 ∷ 32 ∷ 108 ∷ 105 ∷ 110 ∷ 101 ∷ 32 ∷ 49 ∷ 58 ∷ 32 ∷ 110 ∷ 111 ∷ 32 ∷ 115 ∷ 117 ∷ 99 ∷ 104 ∷ 32 ∷ 108 ∷ 105 ∷ 115 ∷ 116 ∷ 10 ∷ []) → ⊥
+unfolding lineOf faultLine filled spelled
+no-command-told-as-no-list p = lists-differ tt (ap integers (p .buffer))
+
+-- `? line 1: too many words`: the line is too long
+pub too-long-told-as-too-many : writes (Wrong 1 TooLong) (63 ∷ 32 ∷ 108 ∷ 105 ∷ 110 ∷ 101 ∷ 32 ∷ 49 ∷ 58 ∷ 32 ∷ 116 ∷ 111 ∷ 111 ∷ 32 ∷ 109 ∷ 97 ∷ 110 ∷ 121 ∷ 32 ∷ 119 ∷ 111 ∷ 114 ∷ 100 ∷ 115 ∷ 10 ∷ []) → ⊥
+unfolding lineOf faultLine filled spelled
+too-long-told-as-too-many p = lists-differ tt (ap integers (p .buffer))
+
+-- `refused 1 at 0: too few words`: it is no refusal
+pub fault-told-as-a-refusal : writes (Wrong 1 TooFew) (114 ∷ 101 ∷ 102 ∷ 117 ∷ 115 ∷ 101 ∷ 100 ∷ 32 ∷ 49 ∷ 32 ∷ 97 ∷ 116 ∷ 32 ∷ 48 ∷ 58 ∷ 32 ∷ 116 ∷ 111 ∷ 111 ∷ 32 ∷ 102 ∷ 101 ∷ 119 ∷ 32 ∷ 119 ∷ 111 ∷ 114 ∷ 100 ∷ 115 ∷ 10 ∷ []) → ⊥
+unfolding lineOf faultLine filled spelled
+fault-told-as-a-refusal p = lists-differ tt (ap integers (p .buffer))
+
+-- ---- a refusal: its number, its place and the number's cause
+
+-- `refused 3 at 2: a rise is outside its limits`: 3 is a width
+pub cause-of-another-number : writes (Refused (record { number = 3; place = 2 })) (114 ∷ 101 ∷ 102 ∷ 117 ∷ 115 ∷ 101 ∷ 100 ∷ 32 ∷ 51 ∷ 32 ∷ 97 ∷ 116 ∷ 32 ∷ 50 ∷ 58 ∷ 32 ∷ 97 ∷ 32 ∷ 114 ∷ 105 ∷ 115 ∷ 101 ∷ 32 ∷ 105 ∷ 115 ∷ 32 ∷ 111 ∷ 117 ∷ 116 ∷ 115 ∷ 105 ∷ 100 ∷ 101 ∷ 32 ∷ 105 ∷ 116 ∷ 115 ∷ 32 ∷ 108 ∷ 105 ∷ 109 ∷ 105 ∷ 116 ∷ 115 ∷ 10 ∷ []) → ⊥
+unfolding lineOf faultLine filled spelled
+cause-of-another-number p = lists-differ tt (ap integers (p .buffer))
+
+-- `refused 2 at 3: a width is not in 1 to 1024`: 3 at 2
+pub place-and-number-exchanged : writes (Refused (record { number = 3; place = 2 })) (114 ∷ 101 ∷ 102 ∷ 117 ∷ 115 ∷ 101 ∷ 100 ∷ 32 ∷ 50 ∷ 32 ∷ 97 ∷ 116 ∷ 32 ∷ 51 ∷ 58 ∷ 32 ∷ 97 ∷ 32 ∷ 119 ∷ 105 ∷ 100 ∷ 116 ∷ 104 ∷ 32 ∷ 105 ∷ 115 ∷ 32 ∷ 110 ∷ 111 ∷ 116 ∷ 32 ∷ 105 ∷ 110 ∷ 32 ∷ 49 ∷ 32 ∷ 116 ∷ 111 ∷ 32 ∷ 49 ∷ 48 ∷ 50 ∷ 52 ∷ 10 ∷ []) → ⊥
+unfolding lineOf faultLine filled spelled
+place-and-number-exchanged p = lists-differ tt (ap integers (p .buffer))
+
+-- `refused 3 at 2: `: 3 has a cause
+pub refused-without-a-cause : writes (Refused (record { number = 3; place = 2 })) (114 ∷ 101 ∷ 102 ∷ 117 ∷ 115 ∷ 101 ∷ 100 ∷ 32 ∷ 51 ∷ 32 ∷ 97 ∷ 116 ∷ 32 ∷ 50 ∷ 58 ∷ 32 ∷ 10 ∷ []) → ⊥
+unfolding lineOf faultLine filled spelled
+refused-without-a-cause p = lists-differ tt (ap integers (p .buffer))
+
+-- `refused 3: a width is not in 1 to 1024`: it has a place
+pub refused-without-its-place : writes (Refused (record { number = 3; place = 2 })) (114 ∷ 101 ∷ 102 ∷ 117 ∷ 115 ∷ 101 ∷ 100 ∷ 32 ∷ 51 ∷ 58 ∷ 32 ∷ 97 ∷ 32 ∷ 119 ∷ 105 ∷ 100 ∷ 116 ∷ 104 ∷ 32 ∷ 105 ∷ 115 ∷ 32 ∷ 110 ∷ 111 ∷ 116 ∷ 32 ∷ 105 ∷ 110 ∷ 32 ∷ 49 ∷ 32 ∷ 116 ∷ 111 ∷ 32 ∷ 49 ∷ 48 ∷ 50 ∷ 52 ∷ 10 ∷ []) → ⊥
+unfolding lineOf faultLine filled spelled
+refused-without-its-place p = lists-differ tt (ap integers (p .buffer))
+
+-- `refused 1 at 0: fewer than 2 or more than 1024 points`: 1 is the lengths
+pub causes-counted-from-0 : writes (Refused (record { number = 1; place = 0 })) (114 ∷ 101 ∷ 102 ∷ 117 ∷ 115 ∷ 101 ∷ 100 ∷ 32 ∷ 49 ∷ 32 ∷ 97 ∷ 116 ∷ 32 ∷ 48 ∷ 58 ∷ 32 ∷ 102 ∷ 101 ∷ 119 ∷ 101 ∷ 114 ∷ 32 ∷ 116 ∷ 104 ∷ 97 ∷ 110 ∷ 32 ∷ 50 ∷ 32 ∷ 111 ∷ 114 ∷ 32 ∷ 109 ∷ 111 ∷ 114 ∷ 101 ∷ 32 ∷ 116 ∷ 104 ∷ 97 ∷ 110 ∷ 32 ∷ 49 ∷ 48 ∷ 50 ∷ 52 ∷ 32 ∷ 112 ∷ 111 ∷ 105 ∷ 110 ∷ 116 ∷ 115 ∷ 10 ∷ []) → ⊥
+unfolding lineOf faultLine filled spelled
+causes-counted-from-0 p = lists-differ tt (ap integers (p .buffer))
+
+-- `refused 99 at 0: piece too large for the exact float answer`: 99 has no cause
+pub no-cause-told-as-the-last : writes (Refused (record { number = 99; place = 0 })) (114 ∷ 101 ∷ 102 ∷ 117 ∷ 115 ∷ 101 ∷ 100 ∷ 32 ∷ 57 ∷ 57 ∷ 32 ∷ 97 ∷ 116 ∷ 32 ∷ 48 ∷ 58 ∷ 32 ∷ 112 ∷ 105 ∷ 101 ∷ 99 ∷ 101 ∷ 32 ∷ 116 ∷ 111 ∷ 111 ∷ 32 ∷ 108 ∷ 97 ∷ 114 ∷ 103 ∷ 101 ∷ 32 ∷ 102 ∷ 111 ∷ 114 ∷ 32 ∷ 116 ∷ 104 ∷ 101 ∷ 32 ∷ 101 ∷ 120 ∷ 97 ∷ 99 ∷ 116 ∷ 32 ∷ 102 ∷ 108 ∷ 111 ∷ 97 ∷ 116 ∷ 32 ∷ 97 ∷ 110 ∷ 115 ∷ 119 ∷ 101 ∷ 114 ∷ 10 ∷ []) → ⊥
+unfolding lineOf faultLine filled spelled
+no-cause-told-as-the-last p = lists-differ tt (ap integers (p .buffer))
+
+-- `ok`: it is not done
+pub refused-told-as-done : writes (Refused (record { number = 3; place = 2 })) (111 ∷ 107 ∷ 10 ∷ []) → ⊥
+unfolding lineOf faultLine filled spelled
+refused-told-as-done p = lists-differ tt (ap integers (p .buffer))
+
+-- nothing: it is told
+pub refused-and-nothing-told : writes (Refused (record { number = 3; place = 2 })) [] → ⊥
+unfolding lineOf faultLine filled spelled
+refused-and-nothing-told p = lists-differ tt (ap integers (p .buffer))
+
+-- ---- what is done, how many, and the verdicts
+
+-- `ok`: how many is told
+pub count-told-as-done : writes (Count 4) (111 ∷ 107 ∷ 10 ∷ []) → ⊥
+unfolding lineOf faultLine filled spelled
+count-told-as-done p = lists-differ tt (ap integers (p .buffer))
+
+-- `ok 0`: nothing is counted
+pub done-told-as-a-count : writes Done (111 ∷ 107 ∷ 32 ∷ 48 ∷ 10 ∷ []) → ⊥
+unfolding lineOf faultLine filled spelled
+done-told-as-a-count p = lists-differ tt (ap integers (p .buffer))
+
+-- `ok 3`: there are 4
+pub another-count : writes (Count 4) (111 ∷ 107 ∷ 32 ∷ 51 ∷ 10 ∷ []) → ⊥
+unfolding lineOf faultLine filled spelled
+another-count p = lists-differ tt (ap integers (p .buffer))
+
+-- `falling`: it rises
+pub rising-told-as-falling : writes Rising (102 ∷ 97 ∷ 108 ∷ 108 ∷ 105 ∷ 110 ∷ 103 ∷ 10 ∷ []) → ⊥
+unfolding lineOf faultLine filled spelled
+rising-told-as-falling p = lists-differ tt (ap integers (p .buffer))
+
+-- `rising`: it falls
+pub falling-told-as-rising : writes Falling (114 ∷ 105 ∷ 115 ∷ 105 ∷ 110 ∷ 103 ∷ 10 ∷ []) → ⊥
+unfolding lineOf faultLine filled spelled
+falling-told-as-rising p = lists-differ tt (ap integers (p .buffer))
+
+-- `rising`: it is flat
+pub flat-told-as-rising : writes Flat (114 ∷ 105 ∷ 115 ∷ 105 ∷ 110 ∷ 103 ∷ 10 ∷ []) → ⊥
+unfolding lineOf faultLine filled spelled
+flat-told-as-rising p = lists-differ tt (ap integers (p .buffer))
+
+-- `flat`: it bends
+pub bends-told-as-flat : writes Bends (102 ∷ 108 ∷ 97 ∷ 116 ∷ 10 ∷ []) → ⊥
+unfolding lineOf faultLine filled spelled
+bends-told-as-flat p = lists-differ tt (ap integers (p .buffer))
+
+-- ---- values and floats
+
+-- `7`: −7
+pub value-without-its-sign : writes (Value (negsuc 6)) (55 ∷ 10 ∷ []) → ⊥
+unfolding lineOf faultLine filled spelled
+value-without-its-sign p = lists-differ tt (ap integers (p .buffer))
+
+-- `ok 7`: the value alone
+pub value-with-a-word : writes (Value (pos 7)) (111 ∷ 107 ∷ 32 ∷ 55 ∷ 10 ∷ []) → ⊥
+unfolding lineOf faultLine filled spelled
+value-with-a-word p = lists-differ tt (ap integers (p .buffer))
+
+-- `7`: a drive is told `dwell`
+pub dwell-told-as-a-value : writes (Dwell (record { negative = false; size = 7 })) (55 ∷ 10 ∷ []) → ⊥
+unfolding lineOf faultLine filled spelled
+dwell-told-as-a-value p = lists-differ tt (ap integers (p .buffer))
+
+-- `dwell 7`: −7
+pub dwell-without-its-sign : writes (Dwell (record { negative = true; size = 7 })) (100 ∷ 119 ∷ 101 ∷ 108 ∷ 108 ∷ 32 ∷ 55 ∷ 10 ∷ []) → ⊥
+unfolding lineOf faultLine filled spelled
+dwell-without-its-sign p = lists-differ tt (ap integers (p .buffer))
+
+-- `move 3 0 256`: −0 has its sign
+pub move-without-a-sign : writes (Move (record { left = record { negative = false; size = 3 }; numerator = record { negative = true; size = 0 }; denominator = record { negative = false; size = 256 } })) (109 ∷ 111 ∷ 118 ∷ 101 ∷ 32 ∷ 51 ∷ 32 ∷ 48 ∷ 32 ∷ 50 ∷ 53 ∷ 54 ∷ 10 ∷ []) → ⊥
+unfolding lineOf faultLine filled spelled
+move-without-a-sign p = lists-differ tt (ap integers (p .buffer))
+
+-- `move -5 3 256`: the left value is first
+pub floats-exchanged : writes (Move (record { left = record { negative = false; size = 3 }; numerator = record { negative = true; size = 5 }; denominator = record { negative = false; size = 256 } })) (109 ∷ 111 ∷ 118 ∷ 101 ∷ 32 ∷ 45 ∷ 53 ∷ 32 ∷ 51 ∷ 32 ∷ 50 ∷ 53 ∷ 54 ∷ 10 ∷ []) → ⊥
+unfolding lineOf faultLine filled spelled
+floats-exchanged p = lists-differ tt (ap integers (p .buffer))
+
+-- `move 3 256 -5`: the numerator stands before the denominator
+pub fraction-turned-over : writes (Move (record { left = record { negative = false; size = 3 }; numerator = record { negative = true; size = 5 }; denominator = record { negative = false; size = 256 } })) (109 ∷ 111 ∷ 118 ∷ 101 ∷ 32 ∷ 51 ∷ 32 ∷ 50 ∷ 53 ∷ 54 ∷ 32 ∷ 45 ∷ 53 ∷ 10 ∷ []) → ⊥
+unfolding lineOf faultLine filled spelled
+fraction-turned-over p = lists-differ tt (ap integers (p .buffer))
+
+-- `dwell 3`: it moves
+pub move-told-as-a-dwell : writes (Move (record { left = record { negative = false; size = 3 }; numerator = record { negative = true; size = 5 }; denominator = record { negative = false; size = 256 } })) (100 ∷ 119 ∷ 101 ∷ 108 ∷ 108 ∷ 32 ∷ 51 ∷ 10 ∷ []) → ⊥
+unfolding lineOf faultLine filled spelled
+move-told-as-a-dwell p = lists-differ tt (ap integers (p .buffer))
+
+-- ---- the line's end
+
+-- `ok` without an LF: the line ends
+pub no-line-feed : writes Done (111 ∷ 107 ∷ []) → ⊥
+unfolding lineOf faultLine filled spelled
+no-line-feed p = lists-differ tt (ap integers (p .buffer))
+
+-- `ok`, CR, LF: by one byte
+pub return-and-line-feed : writes Done (111 ∷ 107 ∷ 13 ∷ 10 ∷ []) → ⊥
+unfolding lineOf faultLine filled spelled
+return-and-line-feed p = lists-differ tt (ap integers (p .buffer))
+
+-- `ok`, LF, LF: and once
+pub two-line-feeds : writes Done (111 ∷ 107 ∷ 10 ∷ 10 ∷ []) → ⊥
+unfolding lineOf faultLine filled spelled
+two-line-feeds p = lists-differ tt (ap integers (p .buffer))
+
+-- an LF alone: silence has no byte
+pub empty-line-for-silence : writes Silent (10 ∷ []) → ⊥
+unfolding lineOf faultLine filled spelled
+empty-line-for-silence p = lists-differ tt (ap integers (p .buffer))
+
+-- `ok`: nor a word
+pub done-for-silence : writes Silent (111 ∷ 107 ∷ 10 ∷ []) → ⊥
+unfolding lineOf faultLine filled spelled
+done-for-silence p = lists-differ tt (ap integers (p .buffer))
+
+-- ---- where it is put
+
+-- `ok`, LF behind `a`
+pub reply-over-what-is-held : append (97 ∷ 46 ∷ 46 ∷ 46 ∷ []) 1 Done (111 ∷ 107 ∷ 10 ∷ 46 ∷ []) 3 → ⊥
+unfolding lineOf filled
+reply-over-what-is-held p = lists-differ tt (ap integers (p .buffer))
+
+-- what finds no room is not counted
+pub reply-counted-without-room : append (46 ∷ 46 ∷ []) 0 Done (111 ∷ 107 ∷ []) 3 → ⊥
+unfolding lineOf filled
+reply-counted-without-room p = lists-differ tt (ap (λ (n : ℕ). pos n ∷ []) (p .counted))
+
+-- the bytes behind it stay
+pub reply-changes-behind-the-answer : append (46 ∷ 46 ∷ 46 ∷ 46 ∷ []) 0 Done (111 ∷ 107 ∷ 10 ∷ 0 ∷ []) 3 → ⊥
+unfolding lineOf filled
+reply-changes-behind-the-answer p = lists-differ tt (ap integers (p .buffer))
+
+-- ---- the right lines are admitted
+
+pub record RightReplies : Type 0 where
+  -- `? line 12: too few words`
+  pub too-few : writes (Wrong 12 TooFew) (63 ∷ 32 ∷ 108 ∷ 105 ∷ 110 ∷ 101 ∷ 32 ∷ 49 ∷ 50 ∷ 58 ∷ 32 ∷ 116 ∷ 111 ∷ 111 ∷ 32 ∷ 102 ∷ 101 ∷ 119 ∷ 32 ∷ 119 ∷ 111 ∷ 114 ∷ 100 ∷ 115 ∷ 10 ∷ [])
+  -- `? line 12: number 2 is not a whole decimal number`
+  pub not-decimal : writes (Wrong 12 (NotDecimal 2)) (63 ∷ 32 ∷ 108 ∷ 105 ∷ 110 ∷ 101 ∷ 32 ∷ 49 ∷ 50 ∷ 58 ∷ 32 ∷ 110 ∷ 117 ∷ 109 ∷ 98 ∷ 101 ∷ 114 ∷ 32 ∷ 50 ∷ 32 ∷ 105 ∷ 115 ∷ 32 ∷ 110 ∷ 111 ∷ 116 ∷ 32 ∷ 97 ∷ 32 ∷ 119 ∷ 104 ∷ 111 ∷ 108 ∷ 101 ∷ 32 ∷ 100 ∷ 101 ∷ 99 ∷ 105 ∷ 109 ∷ 97 ∷ 108 ∷ 32 ∷ 110 ∷ 117 ∷ 109 ∷ 98 ∷ 101 ∷ 114 ∷ 10 ∷ [])
+  -- `refused 3 at 2: a width is not in 1 to 1024`
+  pub refused : writes (Refused (record { number = 3; place = 2 })) (114 ∷ 101 ∷ 102 ∷ 117 ∷ 115 ∷ 101 ∷ 100 ∷ 32 ∷ 51 ∷ 32 ∷ 97 ∷ 116 ∷ 32 ∷ 50 ∷ 58 ∷ 32 ∷ 97 ∷ 32 ∷ 119 ∷ 105 ∷ 100 ∷ 116 ∷ 104 ∷ 32 ∷ 105 ∷ 115 ∷ 32 ∷ 110 ∷ 111 ∷ 116 ∷ 32 ∷ 105 ∷ 110 ∷ 32 ∷ 49 ∷ 32 ∷ 116 ∷ 111 ∷ 32 ∷ 49 ∷ 48 ∷ 50 ∷ 52 ∷ 10 ∷ [])
+  -- `refused 99 at 0: `
+  pub no-cause : writes (Refused (record { number = 99; place = 0 })) (114 ∷ 101 ∷ 102 ∷ 117 ∷ 115 ∷ 101 ∷ 100 ∷ 32 ∷ 57 ∷ 57 ∷ 32 ∷ 97 ∷ 116 ∷ 32 ∷ 48 ∷ 58 ∷ 32 ∷ 10 ∷ [])
+  -- `ok`
+  pub done : writes Done (111 ∷ 107 ∷ 10 ∷ [])
+  -- `ok 4`
+  pub count : writes (Count 4) (111 ∷ 107 ∷ 32 ∷ 52 ∷ 10 ∷ [])
+  -- `falling`
+  pub falling : writes Falling (102 ∷ 97 ∷ 108 ∷ 108 ∷ 105 ∷ 110 ∷ 103 ∷ 10 ∷ [])
+  -- `-7`
+  pub value : writes (Value (negsuc 6)) (45 ∷ 55 ∷ 10 ∷ [])
+  -- `dwell -7`
+  pub dwell : writes (Dwell (record { negative = true; size = 7 })) (100 ∷ 119 ∷ 101 ∷ 108 ∷ 108 ∷ 32 ∷ 45 ∷ 55 ∷ 10 ∷ [])
+  -- `move 3 -0 256`
+  pub moved : writes (Move (record { left = record { negative = false; size = 3 }; numerator = record { negative = true; size = 0 }; denominator = record { negative = false; size = 256 } })) (109 ∷ 111 ∷ 118 ∷ 101 ∷ 32 ∷ 51 ∷ 32 ∷ 45 ∷ 48 ∷ 32 ∷ 50 ∷ 53 ∷ 54 ∷ 10 ∷ [])
+  -- nothing
+  pub silence : writes Silent []
+  -- `ok`, LF behind `a`; and as far as there is room
+  pub behind : append (97 ∷ 46 ∷ 46 ∷ 46 ∷ []) 1 Done (97 ∷ 111 ∷ 107 ∷ 10 ∷ []) 4
+  pub cut : append (46 ∷ 46 ∷ []) 0 Done (111 ∷ 107 ∷ []) 2
+
+pub right-replies : RightReplies
+unfolding lineOf faultLine filled spelled
+right-replies =
+    record {
+      too-few = record { counted = refl; buffer = refl };
+      not-decimal = record { counted = refl; buffer = refl };
+      refused = record { counted = refl; buffer = refl };
+      no-cause = record { counted = refl; buffer = refl };
+      done = record { counted = refl; buffer = refl };
+      count = record { counted = refl; buffer = refl };
+      falling = record { counted = refl; buffer = refl };
+      value = record { counted = refl; buffer = refl };
+      dwell = record { counted = refl; buffer = refl };
+      moved = record { counted = refl; buffer = refl };
+      silence = record { counted = refl; buffer = refl };
+      behind = record { counted = refl; buffer = refl };
+      cut = record { counted = refl; buffer = refl };
+    }

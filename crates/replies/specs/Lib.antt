@@ -1,0 +1,4 @@
+pub mod Replies
+pub mod Apart
+pub mod Forms
+pub mod Examples
