@@ -1,25 +1,21 @@
 // The three lists of the workbench, and what the commands do with them. What sets a list or changes the table is lent the lists to be changed; all others only read them.
-use crate::input::LONGEST;
+use crate::Input;
+use crate::Kept;
+use crate::feed::LONGEST;
 use crate::say;
+use crate::told;
 use commands::Command;
 use commands::List;
 use lists::ROOM;
+use replies::Reply;
 use table::Change;
 
 // A number that no point of any table has.
 const NO_POINT: usize = 18446744073709551615;
 
-// How many numbers each list holds, and whether what was to be answered could be written.
-pub struct Desk {
-    pub knots: usize,
-    pub values: usize,
-    pub slopes: usize,
-    pub written: bool,
-}
-
 // The lists are empty.
-pub fn empty() -> Desk {
-    Desk {
+pub fn empty() -> Kept {
+    Kept {
         knots: 0,
         values: 0,
         slopes: 0,
@@ -27,24 +23,167 @@ pub fn empty() -> Desk {
     }
 }
 
-// Answers the line of which so many bytes are held.
+// Answers the line that is held, once it is whole.
 pub fn answer(
     held: &[u8; LONGEST],
-    n: usize,
+    input: Input,
+    knots: &mut [i32; ROOM],
+    values: &mut [i32; ROOM],
+    slopes: &mut [i32; ROOM],
+    kept: Kept,
+) -> Kept {
+    let line = line_of(held, input);
+    match commands::parse(line) {
+        Command::Set(list) => set(list, line, knots, values, slopes, kept),
+        command => other(command, input.number, knots, values, slopes, kept),
+    }
+}
+
+// The line, without the CR that may end it; nothing as long as it is not whole.
+fn line_of(held: &[u8; LONGEST], input: Input) -> &[u8] {
+    if input.whole {
+        return words::content(words::part(held, 0, input.held));
+    }
+    words::part(held, 0, 0)
+}
+
+// `knots N..` and its like: sets a list to the numbers of the line, all of which are known to be good.
+fn set(
+    list: List,
+    line: &[u8],
+    knots: &mut [i32; ROOM],
+    values: &mut [i32; ROOM],
+    slopes: &mut [i32; ROOM],
+    kept: Kept,
+) -> Kept {
+    let n = match list {
+        List::Knots => lists::set(knots, line),
+        List::Values => lists::set(values, line),
+        List::Slopes => lists::set(slopes, line),
+    };
+    reply(holding(kept, list, n), Reply::Count(n))
+}
+
+// The list holds n numbers now.
+fn holding(before: Kept, list: List, n: usize) -> Kept {
+    let mut kept = before;
+    match list {
+        List::Knots => kept.knots = n,
+        List::Values => kept.values = n,
+        List::Slopes => kept.slopes = n,
+    }
+    kept
+}
+
+// What changes the table, and what only reads it.
+fn other(
+    command: Command,
     number: u64,
     knots: &mut [i32; ROOM],
     values: &mut [i32; ROOM],
     slopes: &mut [i32; ROOM],
-    before: Desk,
-) -> Desk {
-    let line = words::content(words::part(held, 0, n));
-    let command = commands::parse(line);
+    kept: Kept,
+) -> Kept {
     match command {
-        Command::Set(list) => set(list, line, knots, values, slopes, before),
-        Command::Build => build(knots, values, slopes, before),
-        Command::Change(point) => change(point, knots, values, slopes, before),
-        _ => tell(command, number, knots, values, slopes, before),
+        Command::Build => build(knots, values, slopes, kept),
+        Command::Change(point) => change(wanted(point), knots, values, slopes, kept),
+        _ => read(command, number, knots, values, slopes, kept),
     }
+}
+
+// `build`: makes the slopes out of the knots and the values.
+fn build(knots: &[i32; ROOM], values: &[i32; ROOM], slopes: &mut [i32], kept: Kept) -> Kept {
+    let done = slopes::build(
+        front(knots, kept.knots),
+        front(values, kept.values),
+        front_to_change(slopes, kept.slopes),
+    );
+    reply(kept, told::done(done))
+}
+
+// `change K X V`: gives point K the knot X and the value V.
+fn change(
+    wanted: Change,
+    knots: &mut [i32],
+    values: &mut [i32],
+    slopes: &mut [i32],
+    kept: Kept,
+) -> Kept {
+    let done = change::point(
+        front_to_change(knots, kept.knots),
+        front_to_change(values, kept.values),
+        front_to_change(slopes, kept.slopes),
+        wanted,
+    );
+    reply(kept, told::done(done))
+}
+
+fn wanted(point: commands::Point) -> Change {
+    Change {
+        point: numbered(point.number),
+        knot: point.knot,
+        value: point.value,
+    }
+}
+
+// The number as one of a point. No point has a negative one.
+fn numbered(k: i64) -> usize {
+    if k < 0 {
+        return NO_POINT;
+    }
+    k as usize
+}
+
+// Every other command, which changes no list.
+fn read(
+    command: Command,
+    number: u64,
+    knots: &[i32; ROOM],
+    values: &[i32; ROOM],
+    slopes: &[i32; ROOM],
+    kept: Kept,
+) -> Kept {
+    let k = front(knots, kept.knots);
+    let v = front(values, kept.values);
+    let s = front(slopes, kept.slopes);
+    if let Command::Show(list) = command {
+        return show(kept, list, k, v, s);
+    }
+    reply(kept, answer_to(command, number, k, v, s))
+}
+
+fn answer_to(
+    command: Command,
+    number: u64,
+    knots: &[i32],
+    values: &[i32],
+    slopes: &[i32],
+) -> Reply {
+    match command {
+        Command::Wrong(fault) => Reply::Wrong(number, fault),
+        Command::Piece(p) => told::judged(piece::judge(p.h, p.z, p.m, p.n)),
+        Command::Check => told::done(table::check(knots, values, slopes)),
+        Command::At(x) => told::valued(curve::evaluate(knots, values, slopes, x)),
+        Command::Drive(x) => told::driven(drive::float_answer(knots, values, slopes, x)),
+        _ => Reply::Silent,
+    }
+}
+
+// `show LIST`: the numbers of a list.
+fn show(before: Kept, list: List, knots: &[i32], values: &[i32], slopes: &[i32]) -> Kept {
+    let mut kept = before;
+    kept.written = match list {
+        List::Knots => say::row(knots),
+        List::Values => say::row(values),
+        List::Slopes => say::row(slopes),
+    };
+    kept
+}
+
+fn reply(before: Kept, reply: Reply) -> Kept {
+    let mut kept = before;
+    kept.written = say::reply(reply);
+    kept
 }
 
 // The first n numbers of a list. No list is said to hold more than it has room for; the test lets the prover see that it does no harm.
@@ -60,115 +199,4 @@ fn front_to_change(list: &mut [i32], n: usize) -> &mut [i32] {
         return list;
     }
     &mut list[..n]
-}
-
-// `knots N..` and its like: sets a list to the numbers of the line, all of which are known to be good.
-fn set(
-    list: List,
-    line: &[u8],
-    knots: &mut [i32; ROOM],
-    values: &mut [i32; ROOM],
-    slopes: &mut [i32; ROOM],
-    before: Desk,
-) -> Desk {
-    let mut desk = before;
-    let n = match list {
-        List::Knots => {
-            desk.knots = lists::set(knots, line);
-            desk.knots
-        }
-        List::Values => {
-            desk.values = lists::set(values, line);
-            desk.values
-        }
-        List::Slopes => {
-            desk.slopes = lists::set(slopes, line);
-            desk.slopes
-        }
-    };
-    desk.written = say::count(n);
-    desk
-}
-
-// `build`: makes the slopes out of the knots and the values.
-fn build(knots: &[i32], values: &[i32], slopes: &mut [i32], desk: Desk) -> Desk {
-    let r = slopes::build(
-        front(knots, desk.knots),
-        front(values, desk.values),
-        front_to_change(slopes, desk.slopes),
-    );
-    after(desk, say::done(r))
-}
-
-// `change K X V`: gives point K the knot X and the value V.
-fn change(
-    point: commands::Point,
-    knots: &mut [i32],
-    values: &mut [i32],
-    slopes: &mut [i32],
-    desk: Desk,
-) -> Desk {
-    let wanted = Change {
-        point: numbered(point.number),
-        knot: point.knot,
-        value: point.value,
-    };
-    let r = change::point(
-        front_to_change(knots, desk.knots),
-        front_to_change(values, desk.values),
-        front_to_change(slopes, desk.slopes),
-        wanted,
-    );
-    after(desk, say::done(r))
-}
-
-// No list's length changes.
-fn after(before: Desk, written: bool) -> Desk {
-    let mut desk = before;
-    desk.written = written;
-    desk
-}
-
-// The number as one of a point. No point has a negative one.
-fn numbered(k: i64) -> usize {
-    if k < 0 {
-        return NO_POINT;
-    }
-    k as usize
-}
-
-// What any other command is answered.
-fn tell(
-    command: Command,
-    number: u64,
-    knots: &[i32],
-    values: &[i32],
-    slopes: &[i32],
-    desk: Desk,
-) -> Desk {
-    let k = front(knots, desk.knots);
-    let v = front(values, desk.values);
-    let s = front(slopes, desk.slopes);
-    after(desk, told(command, number, k, v, s))
-}
-
-fn told(command: Command, number: u64, knots: &[i32], values: &[i32], slopes: &[i32]) -> bool {
-    match command {
-        Command::Wrong(fault) => say::fault(number, fault),
-        Command::Show(list) => show(list, knots, values, slopes),
-        Command::Piece(p) => say::verdict(piece::judge(p.h, p.z, p.m, p.n)),
-        Command::Check => say::done(table::check(knots, values, slopes)),
-        Command::At(x) => say::value(curve::evaluate(knots, values, slopes, x)),
-        Command::Drive(x) => say::driven(drive::float_answer(knots, values, slopes, x)),
-        _ => true,
-    }
-}
-
-// `show LIST`: the numbers of a list.
-fn show(list: List, knots: &[i32], values: &[i32], slopes: &[i32]) -> bool {
-    match list {
-        List::Knots => say::row(knots),
-        List::Values => say::row(values),
-        List::Slopes => say::row(slopes),
-    }
 }

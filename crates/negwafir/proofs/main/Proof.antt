@@ -4,10 +4,10 @@ use Rattle.negwafir.proofs.main.Statement.{statement}
 use Rattle.negwafir.proofs.main.Tie as tie
 
 abbrev Inv-loop : tie.InvT-loop
-Inv-loop line₀ chunk₀ knots₀ values₀ slopes₀ input₀ desk₀ turns₀ line chunk knots values slopes input desk turns = Unit {0}
+Inv-loop line₀ chunk₀ knots₀ values₀ slopes₀ input₀ kept₀ turns₀ line chunk knots values slopes input kept turns = Unit {0}
 
 abbrev μ-loop : tie.MeasureT-loop
-μ-loop line₀ chunk₀ knots₀ values₀ slopes₀ input₀ desk₀ turns₀ line chunk knots values slopes input desk turns = turns
+μ-loop line₀ chunk₀ knots₀ values₀ slopes₀ input₀ kept₀ turns₀ line chunk knots values slopes input kept turns = turns
 
 start-requires : tie.Need-start-requires Inv-loop μ-loop
 start-requires c κs = search needs
@@ -21,8 +21,8 @@ loop-holds c = search needs
 goes-on-requires : tie.Need-goes-on-requires Inv-loop μ-loop
 goes-on-requires c κs = search needs
 
-next-requires : tie.Need-next-requires Inv-loop μ-loop
-next-requires c κs = search needs
+step-requires : tie.Need-step-requires Inv-loop μ-loop
+step-requires c κs = search needs
 
 answer-requires : tie.Need-answer-requires Inv-loop μ-loop
 answer-requires c κs = search needs
@@ -52,7 +52,7 @@ main-spec =
     empty-requires
     loop-holds
     goes-on-requires
-    next-requires
+    step-requires
     answer-requires
     sub-turns
     loop-less

@@ -1,10 +1,10 @@
--- `negwafir::say::whole_part` is safe: its two tests are what the cast to a whole number asks.
+-- `negwafir::told::whole_part` is safe: its two tests are what the cast to a whole number asks.
 use mathlib.Core.Path.{sym, subst}
 use borrow.Author.Needs.{needs}
 use lib.Dec.{T}
 use lib.Ieee.{ofBits, neg}
-use Rattle.negwafir.proofs.say.whole_part.Statement.{statement}
-use Rattle.negwafir.proofs.say.whole_part.Tie as tie
+use Rattle.negwafir.proofs.told.whole_part.Statement.{statement}
+use Rattle.negwafir.proofs.told.whole_part.Tie as tie
 
 truncating-f64-to-u64-requires : tie.Need-truncating-f64-to-u64-requires
 unfolding ofBits neg
