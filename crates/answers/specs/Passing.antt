@@ -1,10 +1,10 @@
 -- Laws of texts that are passed one by one.
 use Prim.Native.Nat.{ℕ, zero, suc, _+_, _-_, _≤_, _<_}
-use mathlib.Core.Path.{_≡_, refl, sym, ap, _∙_}
+use mathlib.Core.Path.{_≡_, refl, ap, _∙_}
 use mathlib.Core.List.{List, []}
 use native.Mathlib.Omega.{arith}
-use lib.ListN.{length, take, drop, length-drop, drop-of-length-le}
-use lib.Seq.{drop-drop, take-nil}
+use lib.ListN.{take, drop}
+use lib.Seq.{drop-drop}
 use Rattle.words.specs.Words.{front, partOf}
 use Rattle.words.specs.Lines.{other, firstOf}
 use Rattle.answers.specs.Texts.{entryOf}

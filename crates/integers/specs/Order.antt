@@ -120,14 +120,6 @@ pub 0<-product : {x y : ℤ} → pos 0 <ℤ x → pos 0 <ℤ y → pos 0 <ℤ (x
     (at-most ((x -ℤ pos 1) *ℤ (y -ℤ pos 1) +ℤ (x -ℤ pos 1) +ℤ (y -ℤ pos 1))
     (ring (x ∷ y ∷ []) (search quote depth 30 fits 9000) tt) (search signs))
 
--- times a number below 0, turned over
-pub 0<-minus-product : {x y : ℤ} → pos 0 <ℤ x → y <ℤ pos 0 → pos 0 <ℤ negℤ (x *ℤ y)
-0<-minus-product {x} {y} h k =
-    subst (λ (v : ℤ). pos 0 <ℤ v) (outside x y) (0<-product h (0<-minus k))
-  where
-    outside : (x y : ℤ) → x *ℤ negℤ y ≡ negℤ (x *ℤ y)
-    outside x y = ring (x ∷ y ∷ []) (search quote depth 30 fits 9000) tt
-
 pub ruleset positives = (0<-plus, 0<-product, 0<-suc)
 
 -- a positive factor can be taken out of an order

@@ -3,8 +3,7 @@ use mathlib.Core.Path.{_≡_, refl, sym, subst}
 use mathlib.Core.Logic.{_⊎_, inl, inr, ⊎-elim}
 use Prim.Native.Nat.{ℕ, zero, suc, _+_, _*_, _≤_}
 use native.Mathlib.Omega.{arith}
-use native.Mathlib.Nat.{mul-le-mul, le-trans}
-use lib.Dec.{T, leb, leb→le}
+use native.Mathlib.Nat.{mul-le-mul}
 use lib.IntN.{ℤ, pos, negsuc, negℤ, natAbs, _+ℤ_, _*ℤ_}
 use lib.Signed.{_≤ℤ_}
 use Rattle.integers.specs.Parts.{P, Q, diff-add, diff-self, diff-neg, ≤-to, ≤-from}
@@ -56,9 +55,6 @@ within-minus {M} x h = record { size = subst (λ (n : ℕ). n ≤ M) (sym (natAb
 
 pub minus-within : {M : ℕ} (x : ℤ) → Within M (negℤ x) → Within M x
 minus-within {M} x h = record { size = subst (λ (n : ℕ). n ≤ M) (natAbs-minus x) (h .size) }
-
-pub within-more : {M N : ℕ} {x : ℤ} → T (leb M N) → Within M x → Within N x
-within-more {M} {N} t h = record { size = le-trans (h .size) (leb→le M N t) }
 
 pub within-plus : {M N : ℕ} {x y : ℤ} → Within M x → Within N y → Within (M + N) (x +ℤ y)
 within-plus {x = x} {y = y} h k = record { size = omega (arith, natAbs-plus x y, h .size, k .size) }

@@ -1,8 +1,7 @@
 -- Worked examples of the definition, each by computing it: replies with their lines.
-use Prim.Native.Nat.{ℕ}
 use mathlib.Core.Path.{_≡_, refl}
 use mathlib.Core.Bool.{true}
-use mathlib.Core.List.{List, [], _∷_}
+use mathlib.Core.List.{[], _∷_}
 use lib.IntN.{negsuc}
 use Rattle.decimals.specs.Text.{spelled}
 use Rattle.answers.specs.Filling.{naturalAs, wholeAs, filled}

@@ -1,7 +1,6 @@
 -- `drive::answer_on` meets its contract: a piece that is too large is refused, and of any other the drive is told.
 use mathlib.Core.Path.{_≡_, sym, subst₂}
 use mathlib.Core.List.{List, [], _∷_}
-use Prim.Native.Nat.{ℕ}
 use borrow.Author.Needs.{needs}
 use lib.IntN.{ℤ}
 use Rattle.integers.specs.Promise.{Decided}

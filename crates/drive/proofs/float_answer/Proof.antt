@@ -1,5 +1,5 @@
 -- `drive::float_answer` meets its contract: 8 is asked of the position's piece once all before it has passed.
-use mathlib.Core.Path.{_≡_, refl, sym, subst, subst₂}
+use mathlib.Core.Path.{_≡_, sym, subst, subst₂}
 use mathlib.Core.List.{[], _∷_}
 use native.Mathlib.Omega.{arith}
 use borrow.Author.Needs.{needs}

@@ -7,7 +7,6 @@ use native.Mathlib.Omega.{arith}
 use Rattle.rules.specs.Order.{refused-answer, right-answer}
 use Rattle.table.specs.Table.{Table, table}
 use Rattle.table.specs.Accepted.{accepted-table}
-use Rattle.position.specs.declared.Sought.{Sought}
 use Rattle.position.specs.Spot.{SoughtIn, sought-outside, sought-on}
 use Rattle.position.specs.Refused.{table-refused, position-refused, none-refused}
 use Rattle.position.proofs.locate.Statement.{statement}

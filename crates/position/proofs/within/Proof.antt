@@ -1,7 +1,6 @@
 -- `position::within` meets its contract: the two tests are the statement.
 use mathlib.Core.List.{List, [], _∷_}
 use Prim.Native.Nat.{_-_}
-use native.Mathlib.Omega.{arith}
 use lib.Signed.{clashℤ}
 use lib.ListN.{length}
 use mir.Syntax.{w32}

@@ -3,7 +3,7 @@ use mathlib.Core.Path.{ap, subst⁻¹}
 use mathlib.Core.List.{List, [], _∷_}
 use Prim.Native.Nat.{ℕ}
 use denote.Ref.{now}
-use lib.ListN.{drop, drop-of-length-le}
+use lib.ListN.{drop-of-length-le}
 use Rattle.words.specs.Lines.{Appended}
 use Rattle.answers.specs.Filling.{nextText}
 use borrow.Author.Needs.{needs}

@@ -1,7 +1,6 @@
 -- `answers::filling::pick` meets its contract: of 0, 1 and 2, each has its number.
 use native.Mathlib.Omega.{arith}
-use Prim.Native.Nat.{ℕ}
-use mathlib.Core.Path.{_≡_, refl}
+use mathlib.Core.Path.{_≡_}
 use Rattle.answers.proofs.filling.pick.Statement.{statement}
 use Rattle.answers.proofs.filling.pick.Tie as tie
 

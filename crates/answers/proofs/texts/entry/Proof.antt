@@ -1,9 +1,9 @@
 -- `answers::texts::entry` meets its contract: the first i entries are passed, and a turn passes one more, or finds that there is none.
 use Prim.Native.Nat.{ℕ, _+_, _-_, _≤_}
 use native.Mathlib.Omega.{arith}
-use mathlib.Core.Path.{_≡_, refl, sym, ap, _∙_}
+use mathlib.Core.Path.{_≡_, sym, ap, _∙_}
 use denote.Ref.{now}
-use lib.ListN.{length, drop, drop-of-length-le}
+use lib.ListN.{drop, drop-of-length-le}
 use Rattle.words.specs.Words.{partOf}
 use Rattle.words.specs.Lines.{firstOf}
 use Rattle.answers.specs.Texts.{entryOf}

@@ -6,7 +6,6 @@ use lib.IntN.{ℤ, pos}
 use lib.Seq.{getD-set-same, getD-set-other}
 use lib.ListN.{set}
 use mir.Syntax.{w32}
-use mir.Facts.{toZ-ofZ}
 use borrow.Author.Needs.{needs}
 use Rattle.integers.specs.Sizes.{Known, held, fits, sized, plain-is, code}
 use Rattle.table.specs.Table.{entry}

@@ -1,5 +1,5 @@
 -- `table::search::scan` meets its contract: up to where the loop stands every piece is sound, and the point there is at hand.
-use mathlib.Core.Path.{_≡_, sym, ap₂}
+use mathlib.Core.Path.{_≡_}
 use Prim.Native.Nat.{ℕ, _+_, _-_, _≤_, _<_}
 use native.Mathlib.Omega.{arith}
 use lib.ListN.{length}
