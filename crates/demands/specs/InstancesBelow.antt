@@ -124,7 +124,7 @@ pub record WorkedBelow : Type 0 where
   -- `at`, tab, `1`, space asks for position 1
   pub parse : commands·parse.Post ([], tt) (bytes at-one, tt) (Command.the-variants.At (pos 1)) (bytes at-one, tt)
   -- `ok`, LF put behind `=`
-  pub append-reply : replies·append_reply.Post ([], tt) (bytes buffer, (1, (Done, tt))) 4 (bytes (61 ∷ 111 ∷ 107 ∷ 10 ∷ []), (1, (Done, tt)))
+  pub append-reply : replies·append_reply.Post ([], tt) (bytes buffer, (1, (Done (record { number = 0; place = 0 }), tt))) 4 (bytes (61 ∷ 111 ∷ 107 ∷ 10 ∷ []), (1, (Done (record { number = 0; place = 0 }), tt)))
   -- 1, 1, 256, 256 is monotone and a line; the steps, renewed slopes and a position of (0,0), (1,1), (2,4), (3,7) and of (0,0), (3,−10)
   pub is-monotone : SaysMonotone (pos 1) (pos 1) (pos 256) (pos 256) true
   pub coefficients : HasCoefficients (pos 1) (pos 1) (pos 256) (pos 256) (pos 256) (pos 0) (pos 0)

@@ -3,7 +3,6 @@ use crate::Input;
 use crate::Kept;
 use crate::feed::LONGEST;
 use crate::say;
-use crate::told;
 use commands::Command;
 use commands::List;
 use lists::ROOM;
@@ -98,7 +97,7 @@ fn build(knots: &[i32; ROOM], values: &[i32; ROOM], slopes: &mut [i32], kept: Ke
         front(values, kept.values),
         front_to_change(slopes, kept.slopes),
     );
-    reply(kept, told::done(done))
+    reply(kept, Reply::Done(done))
 }
 
 // `change K X V`: gives point K the knot X and the value V.
@@ -115,7 +114,7 @@ fn change(
         front_to_change(slopes, kept.slopes),
         wanted,
     );
-    reply(kept, told::done(done))
+    reply(kept, Reply::Done(done))
 }
 
 fn wanted(point: commands::Point) -> Change {
@@ -161,10 +160,10 @@ fn answer_to(
 ) -> Reply {
     match command {
         Command::Wrong(fault) => Reply::Wrong(number, fault),
-        Command::Piece(p) => told::judged(piece::judge(p.h, p.z, p.m, p.n)),
-        Command::Check => told::done(table::check(knots, values, slopes)),
-        Command::At(x) => told::valued(curve::evaluate(knots, values, slopes, x)),
-        Command::Drive(x) => told::driven(drive::float_answer(knots, values, slopes, x)),
+        Command::Piece(p) => Reply::Judged(piece::judge(p.h, p.z, p.m, p.n)),
+        Command::Check => Reply::Done(table::check(knots, values, slopes)),
+        Command::At(x) => Reply::Valued(curve::evaluate(knots, values, slopes, x)),
+        Command::Drive(x) => Reply::Driven(drive::float_answer(knots, values, slopes, x)),
         _ => Reply::Silent,
     }
 }

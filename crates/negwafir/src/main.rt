@@ -2,7 +2,6 @@
 mod desk;
 mod feed;
 mod say;
-mod told;
 
 // What is known between two reads: how many bytes of a line are held, which line that is and whether it is whole, how many bytes the last read brought and
 // where in them the next line starts, and whether more may come.

@@ -1,14 +1,17 @@
 -- What a line is made of, as the code has it: its form by its place among all forms, its cause by its number, its numbers and its ending.
 use Prim.Native.Nat.{ℕ}
-use mathlib.Core.Path.{_≡_, sym, ap, ap₂, _∙_}
+use mathlib.Core.Path.{_≡_, refl, sym, ap, ap₂, _∙_}
+use mathlib.Core.Bool.{Bool, true, false, cond}
 use mathlib.Core.List.{List, [], _∷_, _++_}
+use lib.Dec.{eqb}
 use lib.ListN.{getD}
 use Rattle.words.specs.Words.{partOf}
 use Rattle.answers.specs.declared.filling.Signed.{Signed}
 use Rattle.answers.specs.Filling.{naturalAs, filled}
 use Rattle.answers.specs.Texts.{entryOf}
+use Rattle.rules.specs.declared.Refusal.{Refusal}
 use Rattle.replies.specs.declared.Parts.{Parts}
-use Rattle.replies.specs.Replies.{tooLong, noCommand, tooFew, tooMany, noList, notDecimal, beyond32, beyond64, refused, ok, counted, rising, falling, flat, bends, value, dwell, move, causes, causeOf}
+use Rattle.replies.specs.Replies.{tooLong, noCommand, tooFew, tooMany, noList, notDecimal, beyond32, beyond64, refused, ok, counted, rising, falling, flat, bends, value, dwell, move, causes, causeOf, refusedLine, unlessRefused}
 use Rattle.replies.specs.Apart.{textsOf, entry-there}
 
 -- the forms, of which the first is that of no line
@@ -45,6 +48,13 @@ naturals form cause first second = record { form = form; cause = cause; first = 
 abbrev pub none : Parts
 none = record { form = 0; cause = 0; first = naturalAs 0; second = naturalAs 0; third = naturalAs 0; ends = 0 }
 
+-- the parts of a refusal's line, and of a line that is that of the refusal where its number is not 0
+abbrev pub refusal : Refusal → Parts
+refusal r = naturals 9 (r .number) (r .number) (r .place)
+
+abbrev pub unless : Refusal → Parts → Parts
+unless r otherwise = cond (eqb (r .number) 0) otherwise (refusal r)
+
 -- the line that parts make
 abbrev pub written : Parts → List ℕ
 written p = filled (getD forms (p .form) []) (causeOf (p .cause)) (p .first ∷ p .second ∷ p .third ∷ []) ++ partOf (10 ∷ []) 0 (p .ends)
@@ -52,9 +62,21 @@ written p = filled (getD forms (p .form) []) (causeOf (p .cause)) (p .first ∷ 
 pub record Says (p : Parts) (line : List ℕ) : Type 0 where
   pub said : written p ≡ line
 
--- parts that are known, of a reply or a fault that is known
+-- parts that are known, of a reply or another answer that is known
 pub says : {A : Type 0} (lineFor : A → List ℕ) {p q : Parts} {a x : A} → p ≡ q → a ≡ x → written q ≡ lineFor x → Says p (lineFor a)
 says lineFor e known f = record { said = ap written e ∙ f ∙ ap lineFor (sym known) }
+
+-- parts of a reply that is known
+pub known : {A : Type 0} (lineFor : A → List ℕ) {p : Parts} {a x : A} → a ≡ x → Says p (lineFor x) → Says p (lineFor a)
+known lineFor e s = record { said = s .said ∙ ap lineFor (sym e) }
+
+-- parts that are those of a refusal where there is one
+pub said-unless : (r : Refusal) {p q : Parts} {line : List ℕ} → q ≡ unless r p → Says p line → Says q (unlessRefused r line)
+unfolding filled
+said-unless r {p} {q} {line} e s = record { said = ap written e ∙ either (eqb (r .number) 0) } where
+  either : (b : Bool) → written (cond b p (refusal r)) ≡ cond b line (refusedLine r)
+  either true = s .said
+  either false = refl
 
 -- the line, put together of what stands at the places that its parts name
 pub put-together : (formTexts causeTexts : List ℕ) {p : Parts} {line form cause ending : List ℕ} → Says p line → textsOf formTexts ≡ forms → textsOf causeTexts ≡ causes

@@ -1,3 +1,4 @@
+pub mod Floats
 pub mod Replies
 pub mod Apart
 pub mod Forms

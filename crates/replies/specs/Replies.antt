@@ -1,13 +1,21 @@
 -- The line that each answer of the workbench is written as. Text is the list of its bytes. In a form, `#` is the place of the next number and `$` that of the cause of a refusal.
 use Prim.Native.Nat.{ℕ}
+use mathlib.Core.Bool.{cond}
 use mathlib.Core.List.{List, [], _∷_, _++_}
+use lib.Dec.{eqb}
 use lib.ListN.{getD}
 use Rattle.answers.specs.declared.filling.Signed.{Signed}
 use Rattle.answers.specs.Filling.{naturalAs, wholeAs, filled}
 use Rattle.commands.specs.declared.Fault.{Fault}
 use Rattle.commands.specs.declared.Fault.the-variants.{TooLong, NoCommand, TooFew, TooMany, NoList, NotDecimal, Beyond32, Beyond64}
+use Rattle.rules.specs.declared.Refusal.{Refusal}
+use Rattle.piece.specs.declared.Verdict.{Verdict}
+use Rattle.piece.specs.declared.Verdict.the-variants.{Rising, Falling, Flat, Bends, Refused}
+use Rattle.drive.specs.declared.Answer.{Answer}
+use Rattle.drive.specs.declared.Answer.the-variants.{Dwell, Move}
 use Rattle.replies.specs.declared.Reply.{Reply}
-use Rattle.replies.specs.declared.Reply.the-variants.{Silent, Wrong, Refused, Done, Count, Rising, Falling, Flat, Bends, Value, Dwell, Move}
+use Rattle.replies.specs.declared.Reply.the-variants.{Silent, Wrong, Done, Count, Judged, Valued, Driven}
+use Rattle.replies.specs.Floats.{floatAs}
 
 -- a form with its numbers filled in, and an LF; it has no cause
 abbrev line : List ℕ → List Signed → List ℕ
@@ -113,6 +121,13 @@ causeOf number = getD causes number []
 abbrev pub refused : List ℕ
 refused = 114 ∷ 101 ∷ 102 ∷ 117 ∷ 115 ∷ 101 ∷ 100 ∷ 32 ∷ 35 ∷ 32 ∷ 97 ∷ 116 ∷ 32 ∷ 35 ∷ 58 ∷ 32 ∷ 36 ∷ []
 
+abbrev pub refusedLine : Refusal → List ℕ
+refusedLine r = filled refused (causeOf (r .number)) (naturalAs (r .number) ∷ naturalAs (r .place) ∷ []) ++ (10 ∷ [])
+
+-- a line, or that of the refusal where its number is not 0
+abbrev pub unlessRefused : Refusal → List ℕ → List ℕ
+unlessRefused r otherwise = cond (eqb (r .number) 0) otherwise (refusedLine r)
+
 -- ---- the other answers
 
 -- `ok`
@@ -153,16 +168,22 @@ move = 109 ∷ 111 ∷ 118 ∷ 101 ∷ 32 ∷ 35 ∷ 32 ∷ 35 ∷ 32 ∷ 35 ∷
 
 -- ---- the line of each reply; a silent one has no byte
 
+abbrev pub verdictLine : Verdict → List ℕ
+verdictLine Rising = line rising []
+verdictLine Falling = line falling []
+verdictLine Flat = line flat []
+verdictLine Bends = line bends []
+verdictLine (Refused r) = refusedLine r
+
+abbrev pub toldLine : Answer → List ℕ
+toldLine (Dwell level) = line dwell (floatAs level ∷ [])
+toldLine (Move m) = line move (floatAs (m .left) ∷ floatAs (m .numerator) ∷ floatAs (m .denominator) ∷ [])
+
 unfoldable pub lineOf : Reply → List ℕ
 lineOf Silent = []
 lineOf (Wrong n fault) = faultLine n fault
-lineOf (Refused r) = filled refused (causeOf (r .number)) (naturalAs (r .number) ∷ naturalAs (r .place) ∷ []) ++ (10 ∷ [])
-lineOf Done = line ok []
+lineOf (Done r) = unlessRefused r (line ok [])
 lineOf (Count n) = line counted (naturalAs n ∷ [])
-lineOf Rising = line rising []
-lineOf Falling = line falling []
-lineOf Flat = line flat []
-lineOf Bends = line bends []
-lineOf (Value v) = line value (wholeAs v ∷ [])
-lineOf (Dwell level) = line dwell (level ∷ [])
-lineOf (Move m) = line move (m .left ∷ m .numerator ∷ m .denominator ∷ [])
+lineOf (Judged verdict) = verdictLine verdict
+lineOf (Valued v) = unlessRefused (v .refusal) (line value (wholeAs (v .value) ∷ []))
+lineOf (Driven d) = unlessRefused (d .refusal) (toldLine (d .answer))

@@ -2,12 +2,16 @@
 // written.
 ghost use mathlib.Core.Path.{_≡_};
 ghost use Rattle.answers.specs.Filling.{naturalAs};
-ghost use Rattle.replies.specs.Replies.{faultLine, lineOf};
-ghost use Rattle.replies.specs.Forms.{Says, naturals, numbers, none};
+ghost use Rattle.replies.specs.Replies.{faultLine, verdictLine, toldLine, lineOf};
+ghost use Rattle.replies.specs.Forms.{Says, naturals, numbers, refusal, unless, none};
 use crate::Parts;
 use crate::Reply;
+use crate::floats::float;
 use answers::Signed;
 use commands::Fault;
+use drive::Answer;
+use piece::Verdict;
+use rules::Refusal;
 
 // A number for a form that has no place for it.
 const ZERO: Signed = Signed {
@@ -92,21 +96,61 @@ fn parts_of_fault(line: u64, fault: Fault) -> Parts
     }
 }
 
+// A line, or that of the refusal where its number is not 0.
+fn unless_refused(r: Refusal, otherwise: Parts) -> Parts
+    ensures { λ p. ⌜ p ≡ unless r otherwise ⌝ }
+{
+    if r.number == rules::DONE {
+        return otherwise;
+    }
+    parts_of_refusal(r)
+}
+
+fn parts_of_refusal(r: Refusal) -> Parts
+    ensures { λ p. ⌜ p ≡ refusal r ⌝ }
+{
+    with_naturals(9, r.number as usize, r.number as u64, r.place as u64)
+}
+
+fn parts_of_verdict(verdict: Verdict) -> Parts
+    ensures { λ r. ⌜ Says r (verdictLine verdict) ⌝ }
+{
+    match verdict {
+        Verdict::Rising => with_naturals(12, 0, 0, 0),
+        Verdict::Falling => with_naturals(13, 0, 0, 0),
+        Verdict::Flat => with_naturals(14, 0, 0, 0),
+        Verdict::Bends => with_naturals(15, 0, 0, 0),
+        Verdict::Refused(r) => parts_of_refusal(r),
+    }
+}
+
+fn parts_of_told(answer: Answer) -> Parts
+    ensures { λ r. ⌜ Says r (toldLine answer) ⌝ }
+{
+    match answer {
+        Answer::Dwell(level) => with_number(17, float(level)),
+        Answer::Move(m) => with_numbers(
+            18,
+            float(m.left),
+            float(m.numerator),
+            float(m.denominator),
+        ),
+    }
+}
+
 pub(crate) fn parts_of(reply: Reply) -> Parts
     ensures { λ r. ⌜ Says r (lineOf reply) ⌝ }
 {
     match reply {
         Reply::Silent => nothing(),
         Reply::Wrong(line, fault) => parts_of_fault(line, fault),
-        Reply::Refused(r) => with_naturals(9, r.number as usize, r.number as u64, r.place as u64),
-        Reply::Done => with_naturals(10, 0, 0, 0),
+        Reply::Done(r) => unless_refused(r, with_naturals(10, 0, 0, 0)),
         Reply::Count(n) => with_naturals(11, 0, n as u64, 0),
-        Reply::Rising => with_naturals(12, 0, 0, 0),
-        Reply::Falling => with_naturals(13, 0, 0, 0),
-        Reply::Flat => with_naturals(14, 0, 0, 0),
-        Reply::Bends => with_naturals(15, 0, 0, 0),
-        Reply::Value(v) => with_number(16, answers::whole32(v)),
-        Reply::Dwell(level) => with_number(17, level),
-        Reply::Move(m) => with_numbers(18, m.left, m.numerator, m.denominator),
+        Reply::Judged(verdict) => parts_of_verdict(verdict),
+        Reply::Valued(v) => unless_refused(v.refusal, with_number(16, answers::whole32(v.value))),
+        Reply::Driven(d) => {
+            let answer = d.answer;
+            unless_refused(d.refusal, parts_of_told(answer))
+        }
     }
 }
