@@ -76,12 +76,15 @@ same-length-passes s _ (lengths-differ f) = f s
 pub count-passes : {t : Table} → CountWithin (pointCount t) → (q : ℕ) → Holds t 2 q → ⊥
 count-passes w _ (too-few-or-many f) = f w
 
-pub points-accepted : {ks vs ss : List ℤ} → PointsWithin ks vs → length ss ≡ length ks → Given (Holds (table ks vs ss)) buildOrder 0 0
-points-accepted {ks} {vs} {ss} p e =
-    passed (same-length-passes (record { values = p .lengths; slopes = e })) (passed (count-passes (p .count)) (passed widths (passed rises done)))
+pub steps-accepted : {ks vs ss : List ℤ} → ((i : ℕ) → i + 1 < length ks → WidthWithin (step ks i)) → ((i : ℕ) → i + 1 < length ks → RiseWithin (step vs i)) → Given (Holds (table ks vs ss)) (3 ∷ 4 ∷ []) 0 0
+steps-accepted {ks} {vs} {ss} ws rs = passed widths (passed rises done)
   where
     widths : (q : ℕ) → Holds (table ks vs ss) 3 q → ⊥
-    widths q (width-outside l f) = f (p .widths q l)
+    widths q (width-outside l f) = f (ws q l)
 
     rises : (q : ℕ) → Holds (table ks vs ss) 4 q → ⊥
-    rises q (rise-outside l f) = f (p .rises q l)
+    rises q (rise-outside l f) = f (rs q l)
+
+pub points-accepted : {ks vs ss : List ℤ} → PointsWithin ks vs → length ss ≡ length ks → Given (Holds (table ks vs ss)) buildOrder 0 0
+points-accepted p e =
+    passed (same-length-passes (record { values = p .lengths; slopes = e })) (passed (count-passes (p .count)) (steps-accepted (p .widths) (p .rises)))

@@ -6,4 +6,5 @@ pub mod Table
 pub mod Tested
 pub mod Fault
 pub mod Scan
+pub mod Pieces
 pub mod Found

@@ -1,13 +1,13 @@
 -- What the search for a faulty piece asks of a piece, and what it answers. Nobody has to believe this file: `first` promises `Given`.
-use mathlib.Core.Path.{_≡_, refl, sym, subst}
+use mathlib.Core.Path.{_≡_, refl, sym, ap, subst}
 use mathlib.Core.List.{List, [], _∷_}
 use Prim.Native.Nat.{ℕ, zero, suc, _^_, _≤_, _<_}
 use native.Mathlib.Omega.{arith}
 use lib.IntN.{ℤ}
 use lib.ListN.{set, length-set}
 use lib.Signed.{mag}
-use mir.Syntax.{w64}
-use mir.Val.{toZ, ofZ}
+use mir.Syntax.{w32, w64}
+use mir.Val.{SFits, toZ, ofZ}
 use mir.Facts.{toZ-ofZ}
 use Rattle.integers.specs.Within.{Within}
 use Rattle.table.specs.declared.search.Points.{Points}
@@ -51,6 +51,10 @@ pub record Read (x r : ℤ) : Type 0 where
 
 pub as-read : {x r : ℤ} → mag r < 2 ^ 63 → Read x r → Read x (toZ w64 (ofZ w64 r))
 as-read {x} ok = subst (Read x) (sym (toZ-ofZ (record { sfits = ok })))
+
+-- a list with a new entry as it came in
+pub as-it-came : (list : List ℤ) (at : ℕ) {new : ℤ} → SFits w32 new → set list at (toZ w32 (ofZ w32 new)) ≡ set list at new
+as-it-came list at f = ap (set list at) (toZ-ofZ f)
 
 -- point i
 pub record EndAt (t : Table) (last i : ℕ) (knot value slope : ℤ) : Type 0 where

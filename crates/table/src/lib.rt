@@ -3,6 +3,7 @@ mod changed;
 mod pieces;
 mod refusals;
 mod search;
+mod within;
 
 pub use changed::Change;
 pub use pieces::step;

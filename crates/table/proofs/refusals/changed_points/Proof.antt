@@ -1,16 +1,18 @@
 -- `table::changed_points` meets its contract: each part of the order is asked where the parts before it have passed.
 use mathlib.Core.Path.{_≡_, refl}
 use mathlib.Core.List.{[], _∷_}
-use Prim.Native.Nat.{_≤_, _<_}
+use Prim.Native.Nat.{ℕ, _≤_, _<_}
 use native.Mathlib.Omega.{arith}
-use lib.ListN.{length}
+use lib.ListN.{length, length-set}
 use borrow.Author.Needs.{needs}
+use Rattle.integers.specs.Decided.{told}
 use Rattle.rules.specs.Refusals.{Given}
 use Rattle.rules.specs.Order.{stopped, went-on, clear}
 use Rattle.table.specs.Table.{Table, table, SameLengths, Holds}
-use Rattle.table.specs.WouldBe.{changedBy}
-use Rattle.table.specs.Accepted.{same-lengths}
+use Rattle.table.specs.WouldBe.{changedBy, HoldsAfter, changeOrder}
+use Rattle.table.specs.Accepted.{same-lengths, count-asked}
 use Rattle.table.specs.AfterChange.{as-counted, as-stepped, refused-nowhere, taken-there}
+use Rattle.table.specs.Pieces.{none-refused}
 use Rattle.table.proofs.refusals.changed_points.Statement.{statement}
 use Rattle.table.proofs.refusals.changed_points.Tie as tie
 
@@ -37,24 +39,41 @@ returns-2 c =
 equally-long : (c : tie.Else1) → let s = c .before .before .before .args in SameLengths (table (s .knots .now) (s .values .now) (s .slopes .now))
 equally-long c = same-lengths (clear (c .if1 .left) (c .before .before .lengths .ensures))
 
--- what the search answers of the points as they would be
+all-after-requires : tie.Need-all-after-requires
+all-after-requires c κs =
+    let e = c .before .before in
+    (record { lengths = equally-long e .values; count = count-asked (e .if1 .left) (e .before .before .lengths .ensures) }, is-there c)
+
+-- what is answered of the points as they would be, where 1, 2 and 7 have passed
 abbrev start : tie.Else2 → tie.Start
 start c = c .before .before .before .before .before
 
+abbrev given : tie.Else2 → Table
+given c = let s = start c .args in table (s .knots .now) (s .values .now) (s .slopes .now)
+
 abbrev then : tie.Else2 → Table
-then c = let s = start c .args in changedBy (s .change) (table (s .knots .now) (s .values .now) (s .slopes .now))
+then c = changedBy (start c .args .change) (given c)
 
-first-requires : tie.Need-first-requires
-first-requires c κs = (record { low = omega arith; high = omega arith }, (equally-long (c .before .before), omega (arith, is-there c)))
-
-steps : (c : tie.After-first) → Given (Holds (then (c .before))) (3 ∷ 4 ∷ []) (c .first .result .number) (c .first .result .place)
-steps c = c .first .ensures
+answered : {n p : ℕ} (c : tie.Else2) → Given (Holds (then c)) (3 ∷ 4 ∷ []) n p → Given (HoldsAfter (start c .args .change) (given c)) changeOrder n p
+answered c g =
+    let d = c .before .before in went-on (d .if1 .left) (as-counted _ _ (d .before .before .lengths .ensures)) (went-on refl (taken-there _ _ (is-there c)) (as-stepped _ _ g))
 
 returns-3 : tie.Need-returns-3
 returns-3 c =
-    let e = c .before in
-    let d = e .before .before in
-    went-on (d .if1 .left) (as-counted _ _ (d .before .before .lengths .ensures)) (went-on refl (taken-there _ _ (is-there e)) (as-stepped _ _ (steps c)))
+    let e = c .before .before in
+    let s = start e .args in
+    answered e (none-refused (omega (arith, length-set (s .knots .now) (s .change .point) (s .change .knot))) (told (c .before .all-after .ensures) (c .if3 .taken)))
+
+first-requires : tie.Need-first-requires
+first-requires c κs =
+    let e = c .before .before in
+    (record { low = omega arith; high = omega arith }, (equally-long (e .before .before), omega (arith, is-there e)))
+
+steps : (c : tie.After-first) → Given (Holds (then (c .before .before .before))) (3 ∷ 4 ∷ []) (c .first .result .number) (c .first .result .place)
+steps c = c .first .ensures
+
+returns-4 : tie.Need-returns-4
+returns-4 c = answered (c .before .before .before) (steps c)
 
 pub changed-points-spec : {M : Type 1} → statement M
-changed-points-spec = tie.close (tie.spec lengths-requires returns returns-2 first-requires returns-3)
+changed-points-spec = tie.close (tie.spec lengths-requires returns returns-2 all-after-requires returns-3 first-requires returns-4)

@@ -1,19 +1,15 @@
 -- `table::search::end_at` meets its contract: the points that were told apart are those that were given.
 use mathlib.Core.Path.{_≡_, sym, subst}
 use mathlib.Core.List.{List}
-use Prim.Native.Nat.{ℕ, _^_, _<_}
 use lib.IntN.{ℤ}
-use lib.Signed.{mag}
-use lib.ListN.{set}
 use mir.Syntax.{w32}
 use mir.Val.{toZ, ofZ}
-use mir.Facts.{toZ-ofZ}
 use borrow.Author.Needs.{needs}
 use Rattle.integers.specs.Sizes.{returned}
 use Rattle.table.specs.declared.search.Points.{Points}
 use Rattle.table.specs.declared.search.Points.the-variants.{Now, After}
 use Rattle.table.specs.Table.{Table, table, entry}
-use Rattle.table.specs.Search.{asked, Read, as-read, EndAt}
+use Rattle.table.specs.Search.{asked, Read, as-read, as-it-came, EndAt}
 use Rattle.table.proofs.search.end_at.Statement.{statement}
 use Rattle.table.proofs.search.end_at.Tie as tie
 
@@ -57,10 +53,6 @@ returns c =
     let e = c .before .before in
     is-end (e .before .before) Now (e .enum-told .given .1) (as-read (c .before .entry .ok) (c .before .entry .ensures)) (as-read (c .entry2 .ok) (c .entry2 .ensures))
 
--- a new entry as it came in
-came-in : {r : ℤ} (list : List ℤ) (at : ℕ) (new : ℤ) (i : ℕ) → mag new < 2 ^ 31 → Read (entry (set list at (toZ w32 (ofZ w32 new))) i) r → Read (entry (set list at new) i) r
-came-in {r} list at new i f = subst (λ (x : ℤ). Read (entry (set list at x) i) r) (toZ-ofZ (record { sfits = f }))
-
 returns-2 : tie.Need-returns-2
 returns-2 c =
     let k = c .before .before in
@@ -69,8 +61,8 @@ returns-2 c =
     let a = p .before .args in
     let d = e .points .given .0 .0 in
     is-end p (After d) (e .points .given .1)
-    (as-read (k .entry3 .ok) (came-in (a .knots .now) (d .point) (d .knot) (a .i) (k .before .struct-told .given .1 .0 .1) (k .entry3 .ensures)))
-    (as-read (c .entry4 .ok) (came-in (a .values .now) (d .point) (d .value) (a .i) (c .before .struct-told2 .given .1 .1 .0 .1) (c .entry4 .ensures)))
+    (as-read (k .entry3 .ok) (subst (λ (l : List ℤ). Read (entry l (a .i)) (k .entry3 .result)) (as-it-came (a .knots .now) (d .point) (record { sfits = k .before .struct-told .given .1 .0 .1 })) (k .entry3 .ensures)))
+    (as-read (c .entry4 .ok) (subst (λ (l : List ℤ). Read (entry l (a .i)) (c .entry4 .result)) (as-it-came (a .values .now) (d .point) (record { sfits = c .before .struct-told2 .given .1 .1 .0 .1 })) (c .entry4 .ensures)))
 
 pub end-at-spec : {M : Type 1} → statement M
 end-at-spec =
