@@ -6,7 +6,7 @@ ghost use Rattle.replies.specs.Replies.{faultLine, verdictLine, toldLine
 ghost use Rattle.replies.specs.Forms.{Says, naturals, numbers, refusal, unless, none};
 use crate::Parts;
 use crate::Reply;
-use crate::floats::float;
+use crate::written::float;
 use answers::Signed;
 use commands::Fault;
 use drive::Answer;

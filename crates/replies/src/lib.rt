@@ -1,7 +1,7 @@
 // The line that each answer of the workbench is written as. No function asks anything of its caller.
-mod floats;
 mod forms;
 mod writing;
+mod written;
 
 pub use writing::append_reply;
 

@@ -1,11 +1,11 @@
--- `replies::floats::float` meets its contract: its test is that of the definition, and so is the whole part of each sign.
+-- `replies::written::float` meets its contract: its test is that of the definition, and so is the whole part of each sign.
 use borrow.Author.Needs.{needs}
 use Prim.Native.Nat.{ℕ}
 use mathlib.Core.Bool.{Bool, true, false}
 use mathlib.Core.Path.{sym, ap, _∙_}
 use Rattle.replies.specs.Floats.{withSign, floatAs}
-use Rattle.replies.proofs.floats.float.Statement.{statement}
-use Rattle.replies.proofs.floats.float.Tie as tie
+use Rattle.replies.proofs.written.float.Statement.{statement}
+use Rattle.replies.proofs.written.float.Tie as tie
 
 is-negative-requires : tie.Need-is-negative-requires
 is-negative-requires c κs = search needs

@@ -1,4 +1,4 @@
--- `replies::floats::whole_part` meets its contract: its two tests are those of the definition, and what the cast to a whole number asks.
+-- `replies::written::whole_part` meets its contract: its two tests are those of the definition, and what the cast to a whole number asks.
 use Prim.Native.Nat.{ℕ}
 use mathlib.Core.Path.{sym, ap, _∙_, subst}
 use mathlib.Core.Bool.{Bool, false, cond}
@@ -6,8 +6,8 @@ use lib.IntN.{pos}
 use lib.Dec.{T}
 use lib.Ieee.{Float, fin, ofBits, neg, lt, toUnsigned}
 use Rattle.replies.specs.Floats.{wholePart}
-use Rattle.replies.proofs.floats.whole_part.Statement.{statement}
-use Rattle.replies.proofs.floats.whole_part.Tie as tie
+use Rattle.replies.proofs.written.whole_part.Statement.{statement}
+use Rattle.replies.proofs.written.whole_part.Tie as tie
 
 truncating-f64-to-u64-requires : tie.Need-truncating-f64-to-u64-requires
 unfolding ofBits neg
