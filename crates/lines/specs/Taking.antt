@@ -8,11 +8,11 @@ use lib.ListN.{length}
 use Rattle.words.specs.Words.{partOf}
 use Rattle.words.specs.Lines.{firstOf, Appended}
 
--- the piece ends before the next LF, which is the byte 10, or with the chunk
+-- the piece ends before the next LF, which is the byte 10, or with the chunk, or at `from` past its end
 abbrev pub endOf : List ℕ → ℕ → ℕ
 endOf chunk from = firstOf 10 chunk from
 
--- the next line starts behind the LF, or where a chunk of this size has ended
+-- the next line starts behind the LF, or where the piece has ended in a chunk of this size that has no more
 abbrev pub behind : ℕ → ℕ → ℕ
 behind end size = cond (ltb end size) (end + 1) end
 

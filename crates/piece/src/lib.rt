@@ -56,9 +56,9 @@ fn turned(s: i64, x: i64) -> i64
     x
 }
 
-// Fritsch and Carlson's last test, from what a and b have over 3Z, squared with its sign: where that is below 0 the test holds. The callers' sizes leave
+// Fritsch and Carlson's last test, of a and b from 0 on, from what they have over 3Z, squared with its sign: where that is below 0 the test holds. The callers' sizes leave
 // room for both products.
-fn in_ellipse(over: i64, a: i64, b: i64) -> bool
+fn square_within(over: i64, a: i64, b: i64) -> bool
     requires { ⌜ Low over a b ⌝ }
     ensures { λ r. ⌜ Decided (SquareWithin over a b) r ⌝ }
 {
@@ -78,7 +78,7 @@ fn never_against(rise: i64, a: i64, b: i64) -> bool
     if !integers::between(0, b, 4 * rise) {
         return false;
     }
-    in_ellipse(a + b - 3 * rise, a, b)
+    square_within(a + b - 3 * rise, a, b)
 }
 
 // Whether a piece within the limits is monotone: the one test, of the piece turned so that it does not fall.

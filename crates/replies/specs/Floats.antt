@@ -1,4 +1,4 @@
--- A float as it is written: its sign, also that of −0, and the whole part of its size. No answer has a float with a fraction.
+-- A float as it is written: its sign, also that of −0, and the whole part of its size where that is below 2^64. No answer has a float with a fraction, or one that is larger.
 use Prim.Native.Nat.{ℕ}
 use mathlib.Core.Bool.{Bool, true, false, cond}
 use lib.IntN.{pos}

@@ -26,7 +26,7 @@ fn is_negative(x: f64) -> bool
     1.0 / x < 0.0
 }
 
-// The whole part of a float from 0 up to 2^64, and 0 for any other.
+// The whole part of a float above −1 and below 2^64, and 0 for any other.
 fn whole_part(x: f64) -> u64
     ensures { λ r. ⌜ r ≡ wholePart x ⌝ }
 {

@@ -30,18 +30,18 @@ pub record Paired (ks vs : List ℤ) : Type 0 where
   pub count : CountWithin (length ks)
 
 -- piece i is within the limits
-pub record PieceWithin (ks vs : List ℤ) (i : ℕ) : Type 0 where
+pub record StepsWithin (ks vs : List ℤ) (i : ℕ) : Type 0 where
   pub width : WidthWithin (step ks i)
   pub rise : RiseWithin (step vs i)
 
 -- and all pieces from one up to and without another
 pub record PiecesWithin (ks vs : List ℤ) (from end : ℕ) : Type 0 where
-  pub each : (i : ℕ) → from ≤ i → i < end → PieceWithin ks vs i
+  pub each : (i : ℕ) → from ≤ i → i < end → StepsWithin ks vs i
 
 -- as they would be after a change
 module _ (c : Change) (ks vs : List ℤ) where
   abbrev pub PieceAfter : ℕ → Type 0
-  PieceAfter = PieceWithin (set ks (c .point) (c .knot)) (set vs (c .point) (c .value))
+  PieceAfter = StepsWithin (set ks (c .point) (c .knot)) (set vs (c .point) (c .value))
 
   abbrev pub PiecesAfter : (from end : ℕ) → Type 0
   PiecesAfter = PiecesWithin (set ks (c .point) (c .knot)) (set vs (c .point) (c .value))
@@ -81,8 +81,8 @@ module _ {ks vs : List ℤ} where
   pub joined : {from end : ℕ} (k : ℕ) → PiecesWithin ks vs from k → PiecesWithin ks vs k end → PiecesWithin ks vs from end
   joined k p q = record { each = λ i a b. ⊎-elim (λ l. p .each i a l) (λ f. q .each i (at-most f) b) (or-not (decLt i k)) }
 
-  pub just : {i : ℕ} → PieceWithin ks vs i → PiecesWithin ks vs i (i + 1)
-  just {i} here = record { each = λ q a b. subst (PieceWithin ks vs) {x = i} {y = q} (omega (arith, a, b)) here }
+  pub just : {i : ℕ} → StepsWithin ks vs i → PiecesWithin ks vs i (i + 1)
+  just {i} here = record { each = λ q a b. subst (StepsWithin ks vs) {x = i} {y = q} (omega (arith, a, b)) here }
 
   pub counted : {from i m w r : ℕ} → from ≤ i → Faults (PiecesWithin ks vs from i) m → Faults (WidthWithin (step ks i)) w → Faults (RiseWithin (step vs i)) r → Faults (PiecesWithin ks vs from (i + 1)) (m + w + r)
   counted {i = i} {m} {w} {r} l f g h =
@@ -109,11 +109,11 @@ module _ (c : Change) (ks vs : List ℤ) where
   untouched : {from end : ℕ} {b : Bool} → ((i : ℕ) → from ≤ i → i < end → Apart (c .point) i) → Decided (PiecesWithin ks vs from end) b → Decided (PiecesAfter c ks vs from end) b
   untouched apart = alike (λ p. record { each = λ i a b. then (apart i a b) (p .each i a b) }) (λ p. record { each = λ i a b. before (apart i a b) (p .each i a b) })
     where
-      then : {i : ℕ} → Apart (c .point) i → PieceWithin ks vs i → PieceAfter c ks vs i
+      then : {i : ℕ} → Apart (c .point) i → StepsWithin ks vs i → PieceAfter c ks vs i
       then f p =
           record { width = subst WidthWithin (sym (step-other ks (c .knot) f)) (p .width); rise = subst RiseWithin (sym (step-other vs (c .value) f)) (p .rise) }
 
-      before : {i : ℕ} → Apart (c .point) i → PieceAfter c ks vs i → PieceWithin ks vs i
+      before : {i : ℕ} → Apart (c .point) i → PieceAfter c ks vs i → StepsWithin ks vs i
       before f p =
           record { width = subst WidthWithin (step-other ks (c .knot) f) (p .width); rise = subst RiseWithin (step-other vs (c .value) f) (p .rise) }
 

@@ -77,17 +77,17 @@ returns-2 c =
 abbrev s : tie.Else2 → tie.Start
 s c = c .before .before .before .before
 
-add-in-ellipse : tie.Need-add-in-ellipse
-add-in-ellipse c = fits (given (s c)) (search code depth 30 fits 9000) tt
+add-square-within : tie.Need-add-square-within
+add-square-within c = fits (given (s c)) (search code depth 30 fits 9000) tt
 
-mul-in-ellipse : tie.Need-mul-in-ellipse
-mul-in-ellipse c = fits (given (s c)) (search code depth 30 fits 9000) tt
+mul-square-within : tie.Need-mul-square-within
+mul-square-within c = fits (given (s c)) (search code depth 30 fits 9000) tt
 
-sub-in-ellipse : tie.Need-sub-in-ellipse
-sub-in-ellipse c = fits (given (s c)) (search code depth 30 fits 9000) tt
+sub-square-within : tie.Need-sub-square-within
+sub-square-within c = fits (given (s c)) (search code depth 30 fits 9000) tt
 
-in-ellipse-requires : tie.Need-in-ellipse-requires
-in-ellipse-requires c κs =
+square-within-requires : tie.Need-square-within-requires
+square-within-requires c κs =
     let Γ = given (s c) in
     let a = plainly₃ Γ Between (told (c .before .before .before .between .ensures) (not-false _ (c .before .before .if1 .left))) (search arguments depth 30 fits 9000) tt in
     let b = plainly₃ Γ Between (told (c .before .between2 .ensures) (not-false _ (c .if2 .left))) (search arguments depth 30 fits 9000) tt in
@@ -111,8 +111,8 @@ returns-3 c =
     let e = c .before in
     let Γ = given (s e) in
     decided-by _
-    (λ t. square-accepts (start-up e) (end-up e) (plainly₃ Γ SquareWithin (told (c .in-ellipse .ensures) t) (search arguments depth 30 fits 9000) tt))
-    (λ t f. denied (c .in-ellipse .ensures) t (as-coded₃ Γ SquareWithin (search arguments depth 30 fits 9000) tt (square-complete f)))
+    (λ t. square-accepts (start-up e) (end-up e) (plainly₃ Γ SquareWithin (told (c .square-within .ensures) t) (search arguments depth 30 fits 9000) tt))
+    (λ t f. denied (c .square-within .ensures) t (as-coded₃ Γ SquareWithin (search arguments depth 30 fits 9000) tt (square-complete f)))
 
 pub never-against-spec : {M : Type 1} → statement M
 never-against-spec =
@@ -124,8 +124,8 @@ never-against-spec =
     mul-between-2
     between-requires-2
     returns-2
-    add-in-ellipse
-    mul-in-ellipse
-    sub-in-ellipse
-    in-ellipse-requires
+    add-square-within
+    mul-square-within
+    sub-square-within
+    square-within-requires
     returns-3)

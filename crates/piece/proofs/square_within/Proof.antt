@@ -1,4 +1,4 @@
--- `piece::in_ellipse` meets its contract: both products fit, and the test is the statement.
+-- `piece::square_within` meets its contract: both products fit, and the test is the statement.
 use mathlib.Core.Path.{sym, subst}
 use mathlib.Core.List.{List, [], _∷_}
 use lib.IntN.{ℤ, _*ℤ_}
@@ -9,8 +9,8 @@ use Rattle.integers.specs.Sizes.{Known, known, fits, code}
 use Rattle.integers.specs.Tests.{tests, passed, failed}
 use Rattle.integers.specs.Arguments.{arguments, plainly₂, as-coded₁}
 use Rattle.piece.specs.Sizes.{WithSign, as-large}
-use Rattle.piece.proofs.in_ellipse.Statement.{statement}
-use Rattle.piece.proofs.in_ellipse.Tie as tie
+use Rattle.piece.proofs.square_within.Statement.{statement}
+use Rattle.piece.proofs.square_within.Tie as tie
 
 abbrev given : tie.Start → List Known
 given s =
@@ -42,5 +42,5 @@ returns c =
     (λ e. record { within = subst (λ (x : ℤ). (a .over *ℤ x) ≤ℤ (a .a *ℤ a .b)) (size c .is) (passed (with-size c) e (search tests depth 30 fits 9000) tt) })
     (λ e i. clashℤ (failed (with-size c) e (search tests depth 30 fits 9000) tt) (subst (λ (x : ℤ). (a .over *ℤ x) ≤ℤ (a .a *ℤ a .b)) (sym (size c .is)) (i .within)))
 
-pub in-ellipse-spec : {M : Type 1} → statement M
-in-ellipse-spec = tie.close (tie.spec turned-requires mul-result mul-result-2 returns)
+pub square-within-spec : {M : Type 1} → statement M
+square-within-spec = tie.close (tie.spec turned-requires mul-result mul-result-2 returns)
