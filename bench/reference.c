@@ -1,6 +1,7 @@
-/* The yardstick: the exact rules by hand in C, the same refusals in the same order, in the fastest way that we know (docs/BENCHMARKS.md
-   has what else was tried). A table without a fault is gone over with nothing noted down on the way; only where there is a fault the
-   one to be named is looked for. What writes goes over the table a second time, since a refused call writes nothing. */
+/* The yardstick: the exact rules by hand in C, the same refusals in the same order, in the way that was fastest over three compilers
+   together (docs/BENCHMARKS.md has what else was tried). A table without a fault is gone over with nothing noted down on the way; only
+   where there is a fault the one to be named is looked for. What writes goes over the table a second time, since a refused call writes
+   nothing. */
 #include "reference.h"
 
 enum { DONE, LENGTHS, COUNT, WIDTH, RISE, BEND, POSITION, POINT, SIZE };
