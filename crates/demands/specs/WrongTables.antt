@@ -246,8 +246,12 @@ its-piece l b = one-piece (accepted-at refl (l .refusal) .limits) (answer-right 
 pub an-inner-knot-given-to-the-piece-that-ends-there : Locates rise (pos 1) 0 0 0 → ⊥
 an-inner-knot-given-to-the-piece-that-ends-there p = omega (arith, its-piece p (in-piece 1 tt tt tt))
 
-pub a-walk-that-ends-a-piece-too-soon : Locates rise (pos 2) 0 0 0 → ⊥
-a-walk-that-ends-a-piece-too-soon p = omega (arith, its-piece p (at-last-knot {i = 1} refl refl))
+pub a-search-that-ends-a-piece-too-soon : Locates rise (pos 2) 0 0 0 → ⊥
+a-search-that-ends-a-piece-too-soon p = omega (arith, its-piece p (at-last-knot {i = 1} refl refl))
+
+-- as a search among the points has it, and not among the pieces
+pub the-last-knot-given-to-a-piece-that-is-not-there : Locates rise (pos 2) 0 0 2 → ⊥
+the-last-knot-given-to-a-piece-that-is-not-there p = omega (arith, its-piece p (at-last-knot {i = 1} refl refl))
 
 pub the-first-knot-refused : Locates fall (pos 0) 6 0 0 → ⊥
 the-first-knot-refused p = not-outside (within tt tt) (so-it-holds (p .refusal))
@@ -287,6 +291,12 @@ pub a-spot-in-the-piece-that-ends-there : SeeksNot rise (pos 1) (On (record { pi
 a-spot-in-the-piece-that-ends-there =
     let a = built (points-by-test _ _ refl (count tt tt) tt) refl refl in
     (a, λ s. omega (arith, one-piece (a .limits) (sought-on s .1 .belongs) (in-piece 1 tt tt tt)))
+
+-- whatever stands behind the end of the lists
+pub a-spot-in-a-piece-that-is-not-there : {left h z m n t : ℤ} → SeeksNot rise (pos 2) (On (record { piece = 2; left = left; h = h; z = z; m = m; n = n; t = t }))
+a-spot-in-a-piece-that-is-not-there =
+    let a = built (points-by-test _ _ refl (count tt tt) tt) refl refl in
+    (a, λ s. omega (arith, one-piece (a .limits) (sought-on s .1 .belongs) (at-last-knot {i = 1} refl refl)))
 
 -- ---- `evaluate`: the value at a position
 

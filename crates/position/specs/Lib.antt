@@ -4,4 +4,5 @@ pub mod Refused
 pub mod Determined
 pub mod Spot
 pub mod Held
+pub mod Halving
 pub mod Found

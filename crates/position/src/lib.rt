@@ -7,7 +7,7 @@ ghost use Rattle.table.specs.Accepted.{Accepted};
 ghost use Rattle.position.specs.Position.{WithinKnots, Belongs, Located};
 ghost use Rattle.position.specs.Spot.{SpotOn, SoughtIn};
 
-mod walk;
+mod halving;
 
 use rules::Refusal;
 
@@ -77,7 +77,7 @@ pub fn seek(knots: &[i32], values: &[i32], slopes: &[i32], position: i32) -> Sou
     if !within(knots, position) {
         return Sought::Outside;
     }
-    let piece = walk::piece(knots, position);
+    let piece = halving::piece(knots, position);
     Sought::On(spot_on(knots, values, slopes, piece, position))
 }
 

@@ -1,4 +1,4 @@
--- `position::seek` meets its contract: the walk is made where the position lies within the knots.
+-- `position::seek` meets its contract: a piece is looked for where the position lies within the knots.
 use mathlib.Core.Path.{sym, subst}
 use native.Mathlib.Omega.{arith}
 use borrow.Author.Tests.{not-true, not-false}
