@@ -1,5 +1,7 @@
 // Calls of the libraries with what the workbench never gives them, or whose answer it does not show. It prints a line for each: the function, what it was given, and
 // what it answered. Every line, or part of one, is a template that is filled in and written at once.
+ghost use Prim.Native.Nat.{_≤_, _<_};
+ghost use lib.ListN.{length};
 use answers::Signed;
 use curve::Value;
 use decimals::Number;
@@ -25,6 +27,7 @@ fn main() {
     quotients();
     texts(b"abc", b"ab c");
     tables(&KNOTS, &VALUES, &SLOPES, &BEND);
+    pieces();
 }
 
 // ---- integers
@@ -220,6 +223,69 @@ fn level_kind(level: f64) -> usize {
         return 3;
     }
     2
+}
+
+// ---- every position of level tables of several lengths. Their widths are 1, 2 and 3 in turn, so that each is a knot, or beside one, or outside
+
+fn pieces() {
+    let mut knots = [0i32; 1024];
+    spread(&mut knots);
+    let level = [0i32; 1024];
+    pieces_of(&knots, &level, 2);
+    pieces_of(&knots, &level, 3);
+    pieces_of(&knots, &level, 4);
+    pieces_of(&knots, &level, 5);
+    pieces_of(&knots, &level, 31);
+    pieces_of(&knots, &level, 32);
+    pieces_of(&knots, &level, 33);
+    pieces_of(&knots, &level, 1023);
+    pieces_of(&knots, &level, 1024);
+}
+
+fn spread(knots: &mut [i32; 1024]) {
+    let mut i = 0;
+    while i < 1024 {
+        knots[i] = knot(i);
+        i += 1;
+    }
+}
+
+// From 1 on, so that the position before it is 0.
+fn knot(i: usize) -> i32
+    requires { ⌜ i < 1024 ⌝ }
+{
+    let turn = i % 3;
+    (1 + i / 3 * 6 + turn + turn / 2) as i32
+}
+
+// What is answered in the table of the first so many points.
+fn pieces_of(knots: &[i32; 1024], level: &[i32; 1024], points: usize)
+    requires { ⌜ points ≤ 1024 ⌝ }
+{
+    piece_at_each(front(knots, points), front(level, points), points);
+}
+
+// The first n numbers of a list, which has as many.
+fn front(list: &[i32], n: usize) -> &[i32]
+    requires { ⌜ n ≤ length (now list) ⌝ }
+{
+    &list[..n]
+}
+
+fn piece_at_each(knots: &[i32], level: &[i32], points: usize)
+    requires { ⌜ points ≤ 1024 ⌝ }
+{
+    let mut position = 0;
+    while position <= 2 * points {
+        piece_at(knots, level, points, position as i32);
+        position += 1;
+    }
+}
+
+fn piece_at(knots: &[i32], level: &[i32], points: usize, position: i32) {
+    whole32(b"locate # ", position);
+    naturals(b"of # points ", points, 0, 0);
+    located(position::locate(knots, level, level, position));
 }
 
 // ---- what is written. A template that has no place for a text is handed on as the text too.
