@@ -4,7 +4,7 @@
 Each line is a function, what it was given, and what it answers.
 """
 import re
-from itertools import chain
+from itertools import accumulate, chain, cycle, islice
 
 from reference import (
     build_refusal, check_refusal, drive_at, drive_refusal, evaluation_refusal, piece_at, value_at, words_of,
@@ -83,5 +83,14 @@ def tables():
     yield from at(BEND, 3)
 
 
-for line in chain(quotients(), finds(), next_words(), parts(), reads(), buffers(), tables()):
+def pieces():
+    """Level tables of so many points, from 1 on with widths of 1, 2 and 3 in turn: each position is a knot, or beside one, or outside."""
+    for count in (2, 3, 4, 5, 31, 32, 33, 1023, 1024):
+        knots, level = tuple(accumulate(islice(cycle((1, 2, 3)), count - 1), initial=1)), (0,) * count
+        for position in range(2 * count + 1):
+            refused = evaluation_refusal(knots, level, level, position)
+            yield f"locate {position} of {count} points {given(refused)} {0 if refused else piece_at(knots, position)}"
+
+
+for line in chain(quotients(), finds(), next_words(), parts(), reads(), buffers(), tables(), pieces()):
     print(line)

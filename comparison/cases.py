@@ -25,6 +25,8 @@ GROUPS = (
     *rows.GROUPS,
     *language.GROUPS,
     ("The table of before.", rows.last_table_again),
+    # behind all that was there: so no stored line gets another number
+    ("The drive at each knot and beside it, of tables of 2 to 1024 points.", drives.each_knot),
 )
 
 

@@ -2,7 +2,7 @@
 
 Here a piece has room if its rise is small enough for the exact float answer, and is too large if not.
 """
-from itertools import product
+from itertools import cycle, islice, product
 
 from dice import Dice, I32_MAX, I32_MIN
 from evaluations import any_positions, beside, piece_as_table, proposed, table
@@ -321,6 +321,16 @@ def most_points():
     yield from at_and_drive(*any_positions(dice, knots, 100))
     yield row(b"slopes", with_step(slopes, 1023, -rises[1022]))
     yield from drive(knots[0] - 1, *any_positions(dice, knots, 8), knots[1023])
+
+
+def each_knot():
+    """Each knot and the positions beside it, where each piece starts at a value of its own, which the drive is told."""
+    for count, sign in zip((2, 3, 4, 5, 31, 32, 33, 1023, 1024), cycle((1, -1))):
+        knots, values = (
+            sums(islice(cycle(steps), count - 1), -700) for steps in ((1, 4, 2, 3, 1, 7), (sign * 5, sign, sign * 3))
+        )
+        yield from table(knots, values, built_slopes(knots, values))
+        yield from drive(*beside(knots))
 
 
 def one_too_large_of_many():

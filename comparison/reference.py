@@ -4,13 +4,12 @@ It shares nothing with the proved program. It decides by document 01's definitio
 least value of the quadratic over the piece, and not by the test of Fritsch and Carlson. Slopes and
 values are worked out with fractions, which are exact, and rounded at the very end. A value is made
 from the Hermite basis, and not by document 01's line; so is the numerator that the drive is given,
-and no float is used for it. For a change of a point all the slopes of the new points are built, and
-three of them are taken.
+and no float is used for it. Every piece is asked whether a position is its own. For a change of a point
+all the slopes of the new points are built, and three of them are taken.
 """
 import math
 import re
 import sys
-from bisect import bisect_right
 from collections import namedtuple
 from fractions import Fraction
 from functools import lru_cache
@@ -115,9 +114,15 @@ def check_refusal(knots, values, slopes):
     return None
 
 
+@lru_cache(maxsize=1)
+def remembered_refusal(*table):
+    """What refuses a table, or None: looked for once where position after position is asked of the same one."""
+    return check_refusal(*table)
+
+
 def evaluation_refusal(knots, values, slopes, position):
     """The first cause to refuse an evaluation, or None. The whole table is checked before the position is looked at."""
-    refused = check_refusal(knots, values, slopes)
+    refused = remembered_refusal(*map(tuple, (knots, values, slopes)))
     if refused is not None:
         return refused
     return None if knots[0] <= position <= knots[-1] else refusal(6, 0)
@@ -147,8 +152,11 @@ def built_slopes(knots, values):
 
 
 def piece_at(knots, position):
-    """The piece of a position that is not outside: at a knot the one that starts there, at the last knot the last."""
-    return min(bisect_right(knots, position), len(knots) - 1) - 1
+    """The piece of a position that is not outside: the one that starts at or before it and ends after it; of the last knot the last."""
+    if position == knots[-1]:
+        return len(knots) - 2
+    (place,) = (place for place, (left, right) in enumerate(zip(knots, knots[1:])) if left <= position < right)
+    return place
 
 
 def curve_at(knots, values, slopes, position):

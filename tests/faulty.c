@@ -204,6 +204,8 @@ negwafir_place negwafir_locate(TABLE, int32_t position) {
         put_back(knots);
     if (fault("knot_to_the_piece_that_ends_there") && place.piece > 0 && position == knots[place.piece])
         place.piece--;
+    if (fault("last_knot_to_a_piece_that_is_not_there") && place.refusal.number == 0 && position == knots[knots_length - 1])
+        place.piece++;
     return place;
 }
 
