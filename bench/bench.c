@@ -5,11 +5,10 @@
 #include <string.h>
 #include <time.h>
 
-#include "reference.h"
+#include "tables.h"
 
 /* Every size of table has the same number of points in all, so that no size is easier for the processor to foresee than another. */
-enum { POINTS = 32768, LARGEST = 1024, ROUNDS = 41, SIZES = 3, KINDS = 4 };
-enum { RISING, RUNS, MIXED, STEEP };
+enum { POINTS = 32768, ROUNDS = 41, SIZES = 3, KINDS = STEEP + 1 };
 
 static const size_t sizes[SIZES] = {16, 128, LARGEST};
 static const char *const kinds[KINDS] = {"rising", "runs", "mixed", "steep"};
@@ -19,15 +18,13 @@ typedef struct {
     int32_t m, n;
 } piece;
 
-typedef struct {
-    int32_t *knots, *values, *slopes;
-} table;
-
 static int32_t all[KINDS][SIZES][3][POINTS];
 static piece pieces[POINTS];
-static size_t kind, size, length; /* the tables that calls are about */
+static kind_of_table kind; /* of the tables that calls are about */
+static size_t size, length;
+static size_t turn; /* how often they have been gone over in a round */
 
-static void choose(size_t some_kind, size_t some_size)
+static void choose(kind_of_table some_kind, size_t some_size)
 {
     kind = some_kind;
     size = some_size;
@@ -43,50 +40,6 @@ static table table_at(size_t start)
 #define LISTS t.knots, length, t.values, length, t.slopes, length
 
 /* ---- the input */
-
-/* A fixed sequence, so that every run has the same input. */
-static int64_t dice(int64_t low, int64_t high)
-{
-    static uint64_t state = 88172645463325252u;
-    state ^= state << 13;
-    state ^= state >> 7;
-    state ^= state << 17;
-    return low + (int64_t)(state % (uint64_t)(high - low + 1));
-}
-
-/* The way of the next piece: up; or up, down or level for 32 pieces; or for each piece by itself. */
-static int64_t way_at(size_t i, int64_t before)
-{
-    if (kind == MIXED || (kind == RUNS && i % 32 == 0))
-        return dice(-1, 1);
-    return before;
-}
-
-/* Built slopes, so that the table is accepted and no call stops early. */
-static void fill_table(table t)
-{
-    int64_t knot = dice(-1000, 1000), value = dice(-1000, 1000), way = 1;
-    for (size_t i = 0; i < length; i++) {
-        t.knots[i] = (int32_t)knot;
-        t.values[i] = (int32_t)value;
-        way = way_at(i, way);
-        knot += dice(1, 200);
-        value += way * dice(1, 5000);
-    }
-    reference_build(LISTS);
-}
-
-/* All points on one line, and each slope three times that of the line: the last test decides each piece, and just accepts it. */
-static void fill_steep_table(table t)
-{
-    int64_t knot = dice(-1000, 1000), secant = dice(1, 20) * (dice(0, 1) ? 1 : -1);
-    for (size_t i = 0; i < length; i++) {
-        t.knots[i] = (int32_t)knot;
-        t.values[i] = (int32_t)(secant * knot);
-        t.slopes[i] = (int32_t)(3 * 256 * secant);
-        knot += dice(1, 200);
-    }
-}
 
 /* The pieces of mixed tables, some with a slope that is too steep, and some too wide. */
 static void fill_pieces(void)
@@ -104,9 +57,10 @@ static void fill_pieces(void)
     }
 }
 
+/* Another one in each table and each turn, so that no processor learns by heart the way to its piece. */
 static int32_t position_in(table t, size_t start)
 {
-    return t.knots[(start / length * 37 + 11) % (length - 1)] + 1;
+    return t.knots[(start / length * 37 + turn * 101 + 11) % (length - 1)] + 1;
 }
 
 /* Up by one and down again in turn, so that the table stays within its limits however often it is changed. */
@@ -133,6 +87,11 @@ static bool same_refusal(negwafir_refusal a, negwafir_refusal b)
     if (a.number <= NEGWAFIR_SIZE)
         refused[a.number]++;
     return a.number == b.number && a.place == b.place;
+}
+
+static bool same_place(negwafir_place a, negwafir_place b)
+{
+    return same_refusal(a.refusal, b.refusal) && a.piece == b.piece;
 }
 
 static bool same_value(negwafir_value a, negwafir_value b)
@@ -187,6 +146,7 @@ static void compare_answers(copy *c, int32_t position, negwafir_change change)
 {
     table t = lists_of(c);
     want(same_refusal(negwafir_check(LISTS), reference_check(LISTS)), "check");
+    want(same_place(negwafir_locate(LISTS, position), reference_locate(LISTS, position)), "locate");
     want(same_value(negwafir_evaluate(LISTS, position), reference_evaluate(LISTS, position)), "evaluation");
     want(same_told(negwafir_float_answer(LISTS, position), reference_float_answer(LISTS, position)), "float answer");
     compare_changes(c, change);
@@ -302,7 +262,7 @@ static void compare_verdicts(void)
 static void compare_all(void)
 {
     static copy c;
-    for (size_t k = 0; k < KINDS; k++)
+    for (kind_of_table k = RISING; k <= STEEP; k++)
         for (size_t s = 0; s < SIZES; s++) {
             choose(k, s);
             for (size_t start = 0; start < POINTS; start += length) {
@@ -354,6 +314,8 @@ OVER_TABLES(our_build, negwafir_build(LISTS).number + t.slopes[1])
 OVER_TABLES(their_build, reference_build(LISTS).number + t.slopes[1])
 OVER_TABLES(our_change, negwafir_change_point(LISTS, change_in(t, start)).number)
 OVER_TABLES(their_change, reference_change_point(LISTS, change_in(t, start)).number)
+OVER_TABLES(our_locate, negwafir_locate(LISTS, position_in(t, start)).piece)
+OVER_TABLES(their_locate, reference_locate(LISTS, position_in(t, start)).piece)
 OVER_TABLES(our_evaluate, negwafir_evaluate(LISTS, position_in(t, start)).value)
 OVER_TABLES(their_evaluate, reference_evaluate(LISTS, position_in(t, start)).value)
 OVER_TABLES(our_float_answer, (int64_t)negwafir_float_answer(LISTS, position_in(t, start)).numerator)
@@ -372,8 +334,9 @@ static double now(void)
 static double timed(uint64_t (*work)(void), size_t times, uint64_t *sum)
 {
     double began = now();
-    for (size_t i = 0; i < times; i++)
-        *sum = work();
+    *sum = 0;
+    for (turn = 0; turn < times; turn++)
+        *sum += work();
     return now() - began;
 }
 
@@ -421,6 +384,7 @@ static void compare(const char *what, uint64_t (*ours)(void), uint64_t (*theirs)
 static void compare_kind(void)
 {
     compare("check", our_check, their_check);
+    compare("locate", our_locate, their_locate);
     compare("evaluation", our_evaluate, their_evaluate);
     compare("float answer", our_float_answer, their_float_answer);
     if (kind == STEEP)
@@ -429,18 +393,20 @@ static void compare_kind(void)
     compare("change", our_change, their_change);
 }
 
-int main(void)
+/* Its argument says what the library is timed beside. */
+int main(int count, char **arguments)
 {
-    for (size_t k = 0; k < KINDS; k++)
+    for (kind_of_table k = RISING; k <= STEEP; k++)
         for (size_t s = 0; s < SIZES; s++) {
             choose(k, s);
             for (size_t start = 0; start < POINTS; start += length)
-                (kind == STEEP ? fill_steep_table : fill_table)(table_at(start));
+                fill_table(table_at(start), length, kind);
         }
     fill_pieces();
     compare_all();
-    printf("| Call | Tables | Points | Negwafir, ns a piece | Negwafir / C | A tenth of the rounds below and above |\n|---|---|---|---|---|---|\n");
-    for (size_t k = 0; k < KINDS; k++) {
+    printf("| Call | Tables | Points | Negwafir, ns a piece | Negwafir / %s | A tenth of the rounds below and above |\n|---|---|---|---|---|---|\n",
+           count > 1 ? arguments[1] : "C");
+    for (kind_of_table k = RISING; k <= STEEP; k++) {
         choose(k, SIZES - 1);
         compare_kind();
     }

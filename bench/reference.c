@@ -223,8 +223,8 @@ static inline size_t piece_of(const int32_t *knots, size_t length, int32_t posit
     return piece;
 }
 
-static inline negwafir_place locate(const int32_t *knots, size_t knots_length, const int32_t *values, size_t values_length,
-                                    const int32_t *slopes, size_t slopes_length, int32_t position)
+negwafir_place reference_locate(const int32_t *knots, size_t knots_length, const int32_t *values, size_t values_length,
+                                const int32_t *slopes, size_t slopes_length, int32_t position)
 {
     negwafir_refusal checked = reference_check(knots, knots_length, values, values_length, slopes, slopes_length);
     if (checked.number != DONE)
@@ -237,7 +237,7 @@ static inline negwafir_place locate(const int32_t *knots, size_t knots_length, c
 negwafir_value reference_evaluate(const int32_t *knots, size_t knots_length, const int32_t *values, size_t values_length,
                                   const int32_t *slopes, size_t slopes_length, int32_t position)
 {
-    negwafir_place at = locate(knots, knots_length, values, values_length, slopes, slopes_length, position);
+    negwafir_place at = reference_locate(knots, knots_length, values, values_length, slopes, slopes_length, position);
     if (at.refusal.number != DONE)
         return (negwafir_value){at.refusal, 0};
     size_t i = at.piece;
@@ -252,7 +252,7 @@ negwafir_value reference_evaluate(const int32_t *knots, size_t knots_length, con
 negwafir_told reference_float_answer(const int32_t *knots, size_t knots_length, const int32_t *values, size_t values_length,
                                      const int32_t *slopes, size_t slopes_length, int32_t position)
 {
-    negwafir_place at = locate(knots, knots_length, values, values_length, slopes, slopes_length, position);
+    negwafir_place at = reference_locate(knots, knots_length, values, values_length, slopes, slopes_length, position);
     if (at.refusal.number != DONE)
         return (negwafir_told){at.refusal, DWELL, 0.0, 0.0, 1.0};
     size_t i = at.piece;

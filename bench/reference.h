@@ -15,6 +15,9 @@ negwafir_refusal reference_build(const int32_t *knots, size_t knots_length, cons
 negwafir_refusal reference_change_point(int32_t *knots, size_t knots_length, int32_t *values, size_t values_length,
                                         int32_t *slopes, size_t slopes_length, negwafir_change change);
 
+negwafir_place reference_locate(const int32_t *knots, size_t knots_length, const int32_t *values, size_t values_length,
+                                const int32_t *slopes, size_t slopes_length, int32_t position);
+
 negwafir_value reference_evaluate(const int32_t *knots, size_t knots_length, const int32_t *values, size_t values_length,
                                   const int32_t *slopes, size_t slopes_length, int32_t position);
 
