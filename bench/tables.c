@@ -9,19 +9,28 @@ int64_t dice(int64_t low, int64_t high)
     return low + (int64_t)(state % (uint64_t)(high - low + 1));
 }
 
-/* The way of the next piece: 1 up, -1 down, 0 level. */
+/* The way of piece i: 1 up, -1 down, 0 level. */
 static int64_t way_at(size_t i, int64_t before, kind_of_table kind)
 {
-    if (kind == SAW)
-        return -before;
-    if (kind == MIXED || (kind == RUNS && i % 32 == 0))
+    switch (kind) {
+    case RUNS:
+        return i % 32 == 0 ? dice(-1, 1) : before;
+    case MIXED:
         return dice(-1, 1);
-    return before;
+    case LEVEL:
+        return 0;
+    case FALLING:
+        return -1;
+    case SAW:
+        return i % 2 == 0 ? 1 : -1;
+    default:
+        return 1;
+    }
 }
 
 static void fill_built_table(table t, size_t length, kind_of_table kind)
 {
-    int64_t knot = dice(-1000, 1000), value = dice(-1000, 1000), way = kind == FALLING ? -1 : 1;
+    int64_t knot = dice(-1000, 1000), value = dice(-1000, 1000), way = 0;
     for (size_t i = 0; i < length; i++) {
         t.knots[i] = (int32_t)knot;
         t.values[i] = (int32_t)value;

@@ -6,9 +6,9 @@
 
 enum { LARGEST = 1024 };
 
-/* Up; up, down or level for 32 pieces each; the same for each piece; slopes three times that of the line that all points lie on; down; and up and
-   down in turn. */
-typedef enum { RISING, RUNS, MIXED, STEEP, FALLING, SAW } kind_of_table;
+/* Up; up, down or level for 32 pieces each; the same for each piece; slopes three times that of the line that all points lie on; level; down; and
+   up and down in turn. */
+typedef enum { RISING, RUNS, MIXED, STEEP, LEVEL, FALLING, SAW } kind_of_table;
 
 typedef struct {
     int32_t *knots, *values, *slopes;
