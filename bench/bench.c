@@ -19,10 +19,13 @@ typedef struct {
 } piece;
 
 static int32_t all[KINDS][SIZES][3][POINTS];
+static uint16_t sought[SIZES][POINTS]; /* pieces at random, of tables of each size */
 static piece pieces[POINTS];
 static kind_of_table kind; /* of the tables that calls are about */
 static size_t size, length;
-static size_t turn; /* how often they have been gone over in a round */
+static size_t turn; /* how often they have been gone over */
+static bool follow; /* one table is asked alone, count by count, as an arm follows it; else each in turn, at a position at random */
+static int32_t reached; /* the count of the arm that follows */
 
 static void choose(kind_of_table some_kind, size_t some_size)
 {
@@ -57,10 +60,19 @@ static void fill_pieces(void)
     }
 }
 
-/* Another one in each table and each turn, so that no processor learns by heart the way to its piece. */
+static void fill_sought(void)
+{
+    for (size_t s = 0; s < SIZES; s++)
+        for (size_t j = 0; j < POINTS; j++)
+            sought[s][j] = (uint16_t)dice(0, (int64_t)sizes[s] - 2);
+}
+
+/* Another one in each turn, so that the processor cannot learn the way to its piece by heart. */
 static int32_t position_in(table t, size_t start)
 {
-    return t.knots[(start / length * 37 + turn * 101 + 11) % (length - 1)] + 1;
+    if (follow)
+        return reached = reached < t.knots[length - 1] ? reached + 1 : t.knots[0];
+    return t.knots[sought[size][(turn * (POINTS / length) + start / length) % POINTS]] + 1;
 }
 
 /* Up by one and down again in turn, so that the table stays within its limits however often it is changed. */
@@ -291,7 +303,7 @@ static void compare_all(void)
     {                                                             \
         uint64_t sum = 0;                                         \
         for (size_t start = 0; start < POINTS; start += length) { \
-            table t = table_at(start);                            \
+            table t = table_at(follow ? 0 : start);               \
             sum += (uint64_t)(answer);                            \
         }                                                         \
         return sum;                                               \
@@ -331,11 +343,19 @@ static double now(void)
     return (double)time.tv_sec + 1e-9 * (double)time.tv_nsec;
 }
 
-static double timed(uint64_t (*work)(void), size_t times, uint64_t *sum)
+/* Where an arm that follows has come to by then: a round is too short for a long table. */
+static int32_t reached_by(size_t turns)
 {
-    double began = now();
+    const int32_t *knots = table_at(0).knots;
+    return knots[0] + (int32_t)(turns * (POINTS / length) % (size_t)(knots[length - 1] - knots[0]));
+}
+
+static double timed(uint64_t (*work)(void), size_t from, size_t times, uint64_t *sum)
+{
+    reached = reached_by(from);
     *sum = 0;
-    for (turn = 0; turn < times; turn++)
+    double began = now();
+    for (turn = from; turn < from + times; turn++)
         *sum += work();
     return now() - began;
 }
@@ -345,7 +365,7 @@ static size_t times_for(uint64_t (*work)(void))
 {
     uint64_t sum = 0;
     size_t times = 2;
-    while (timed(work, times, &sum) < 0.005)
+    while (timed(work, 0, times, &sum) < 0.005)
         times *= 2;
     return times;
 }
@@ -369,24 +389,29 @@ static void compare(const char *what, uint64_t (*ours)(void), uint64_t (*theirs)
     size_t times = times_for(theirs), number = ours == our_judge ? POINTS : POINTS / length * (length - 1);
     for (size_t i = 0; i < ROUNDS; i++) {
         uint64_t our_sum = 0, their_sum = 0;
-        double our_time = timed(ours, times, &our_sum), their_time = timed(theirs, times, &their_sum);
+        double our_time = timed(ours, i * times, times, &our_sum), their_time = timed(theirs, i * times, times, &their_sum);
         want(our_sum == their_sum, what);
         own[i] = our_time / (double)times / (double)number * 1e9;
         ratios[i] = our_time / their_time;
     }
     double ratio = middle(ratios);
-    printf("| %s | %s | %zu | %.2f | %.2f | %.2f to %.2f |\n", what, kinds[kind], length, middle(own), ratio, ratios[ROUNDS / 10],
+    printf("| %s | %s | %zu | %.2f | %.2f | %.2f to %.2f |\n", what, follow ? "one, followed" : kinds[kind], length, middle(own), ratio, ratios[ROUNDS / 10],
            ratios[ROUNDS - 1 - ROUNDS / 10]);
     fflush(stdout);
+}
+
+static void compare_at_positions(void)
+{
+    compare("locate", our_locate, their_locate);
+    compare("evaluation", our_evaluate, their_evaluate);
+    compare("float answer", our_float_answer, their_float_answer);
 }
 
 /* A build and a change do not look at the slopes, so that steep tables would say nothing of them; and a change would take the slopes away. */
 static void compare_kind(void)
 {
     compare("check", our_check, their_check);
-    compare("locate", our_locate, their_locate);
-    compare("evaluation", our_evaluate, their_evaluate);
-    compare("float answer", our_float_answer, their_float_answer);
+    compare_at_positions();
     if (kind == STEEP)
         return;
     compare("build", our_build, their_build);
@@ -403,6 +428,7 @@ int main(int count, char **arguments)
                 fill_table(table_at(start), length, kind);
         }
     fill_pieces();
+    fill_sought();
     compare_all();
     printf("| Call | Tables | Points | Negwafir, ns a piece | Negwafir / %s | A tenth of the rounds below and above |\n|---|---|---|---|---|---|\n",
            count > 1 ? arguments[1] : "C");
@@ -416,5 +442,10 @@ int main(int count, char **arguments)
     }
     choose(MIXED, SIZES - 1);
     compare("one piece's verdict", our_judge, their_judge);
+    follow = true;
+    for (size_t s = 0; s < SIZES; s++) {
+        choose(MIXED, s);
+        compare_at_positions();
+    }
     return 0;
 }

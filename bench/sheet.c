@@ -14,13 +14,14 @@
 
 #include "tables.h"
 
-enum { POINTS = 3, PAINTED = 4096 }; /* bytes below a call that are looked at: several times what is used */
+enum { PLACES = 4 };
+enum { PAINTED = 4096 }; /* bytes below a call that are looked at: several times what is used */
 
 typedef struct {
     int32_t knots[LARGEST], values[LARGEST], slopes[LARGEST];
 } copy;
 
-static const size_t points[POINTS] = {0, LARGEST / 2, LARGEST - 1};
+static const size_t places[PLACES] = {0, LARGEST / 2, LARGEST - 1, LARGEST}; /* points, and one that is not there */
 static pid_t stepped; /* the process that is led; 0 in itself */
 static int32_t position;
 static negwafir_change change;
@@ -104,6 +105,12 @@ static uintptr_t its_register(int number)
     return (uintptr_t)held;
 }
 
+/* Another word at each place: one that a call copies from its own stack is seen where it is written. */
+static long paint_at(uintptr_t place)
+{
+    return (long)(place * UINT64_C(0x9e3779b97f4a7c15));
+}
+
 static long word_at(uintptr_t place)
 {
     errno = 0;
@@ -116,13 +123,12 @@ static long word_at(uintptr_t place)
    among it: down to where the stack pointer comes, or to what is written below it. */
 static long instructions_of(uintptr_t entry, long *stack)
 {
-    const long paint = 0x5a5a5a5a5a5a5a5a;
     go_on(PTRACE_CONT); /* to the stop before the call */
     while (its_register(RIP) != entry)
         go_on(PTRACE_SINGLESTEP);
     uintptr_t top = its_register(RSP);
-    for (uintptr_t place = top - PAINTED; place < top; place += sizeof paint)
-        need(ptrace(PTRACE_POKEDATA, stepped, place, paint) == 0, "the other process cannot be written");
+    for (uintptr_t place = top - PAINTED; place < top; place += sizeof(long))
+        need(ptrace(PTRACE_POKEDATA, stepped, place, paint_at(place)) == 0, "the other process cannot be written");
     long count = 0;
     uintptr_t lowest = top;
     for (uintptr_t pointer = top; pointer <= top; pointer = its_register(RSP)) {
@@ -132,9 +138,9 @@ static long instructions_of(uintptr_t entry, long *stack)
         count++;
     }
     uintptr_t place = top - PAINTED;
-    while (place < lowest && word_at(place) == paint)
-        place += sizeof paint;
-    *stack = (long)(top + sizeof paint - place);
+    while (place < lowest && word_at(place) == paint_at(place))
+        place += sizeof(long);
+    *stack = (long)(top + sizeof(long) - place);
     return count;
 }
 
@@ -162,16 +168,16 @@ static void enter(row *r, const copy *from)
 
 /* ---- the tables */
 
-/* Each call over a table: at the first knot, the last and one between, and with a change of the point there that changes nothing. No position is
-   looked at where the table is refused, so that one is enough. */
+/* Each call over a table: at the first knot, the last, one between and behind the last, and with a change of the point there that changes nothing, or
+   of none. No position is looked at where the table is refused, so that one is enough. */
 static void enter_all(const copy *c, bool refused)
 {
     for (size_t i = 0; i < ROWS; i++) {
         bool once = rows[i].with == NOTHING || (rows[i].with == AT_A_POSITION && refused);
-        for (size_t j = 0; j < (once ? 1 : POINTS); j++) {
-            size_t k = points[j];
-            position = c->knots[k];
-            change = (negwafir_change){k, c->knots[k], c->values[k]};
+        for (size_t j = 0; j < (once ? 1 : PLACES); j++) {
+            size_t k = places[j], there = k < LARGEST ? k : LARGEST - 1;
+            position = c->knots[there] + (k != there);
+            change = (negwafir_change){k, c->knots[there], c->values[there]};
             enter(&rows[i], c);
         }
     }
@@ -185,9 +191,19 @@ static void spoil(copy *c, const size_t *width, const size_t *rise, const size_t
             c->knots[i] += 1024;
         if (rise != NULL && i > *rise)
             c->values[i] += 1048577 + 5000;
-        if (bend != NULL && i == *bend)
+        if (bend != NULL && i == *bend + 1)
             c->slopes[i] = INT32_MIN;
     }
+}
+
+/* Every piece too large for the exact float answer. */
+static void fill_large(copy *c)
+{
+    for (size_t i = 0; i < LARGEST; i++) {
+        c->knots[i] = 1024 * (int32_t)i;
+        c->values[i] = 2000 * (int32_t)i;
+    }
+    reference_build(c->knots, LARGEST, c->values, LARGEST, c->slopes, LARGEST);
 }
 
 static void enter_spoilt(const copy *from)
@@ -216,6 +232,8 @@ int main(void)
         if (kind == MIXED)
             enter_spoilt(&c);
     }
+    fill_large(&c);
+    enter_all(&c, false);
     if (stepped == 0)
         return 0;
     printf("| Call | Accepted, fewest | most | Refused, most | Stack, bytes |\n|---|---|---|---|---|\n");

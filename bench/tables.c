@@ -1,3 +1,4 @@
+/* Knots and values at random, by kind, and slopes that are accepted with them. */
 #include "tables.h"
 
 int64_t dice(int64_t low, int64_t high)

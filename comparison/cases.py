@@ -25,7 +25,7 @@ GROUPS = (
     *rows.GROUPS,
     *language.GROUPS,
     ("The table of before.", rows.last_table_again),
-    # behind all that was there: so no stored line gets another number
+    # behind all that was there, so that no stored line of it gets another number
     ("The drive at each knot and beside it, of tables of 2 to 1024 points.", drives.each_knot),
 )
 

@@ -90,7 +90,7 @@ by-powers (suc b) k (suc zero) h = zero-le
 by-powers (suc b) zero (suc (suc n)) h = absurd (omega arith)
 by-powers (suc b) (suc k) (suc (suc n)) h = suc-le-suc (by-powers b k (larger (suc (suc n))) (omega arith))
 
--- "Find it by halving the list of pieces, each half in turn": of the 1,023 pieces that a table may have, one is left after ten halvings
+-- "Find it by halving the list of pieces, each half in turn": of the 1,023 pieces that a table may have, one is left after ten halvings or fewer
 pub ten-halvings : {ks vs : List ℤ} → PointsWithin ks vs → halvings (length ks - 1) ≤ 10
 unfolding halvings
 ten-halvings {ks} p = by-powers (length ks - 1) 10 (length ks - 1) (omega (arith, p .count .high))

@@ -1,16 +1,17 @@
 // The piece of a position, found by halving: of a range of pieces that has it, the half is kept that has it, until one piece is left. Of the 1,023 pieces
-// that a table can have at most, one is left after ten halvings (`ten-halvings` of specs/Halving.antt).
-ghost use Prim.Native.Nat.{_<_};
+// that a table can have at most, one is left after ten halvings or fewer.
+ghost use Prim.Native.Nat.{_-_, _≤_, _<_};
 ghost use lib.Signed.{_<ℤ_};
 ghost use lib.ListN.{length};
 ghost use Rattle.integers.specs.Promise.{Decided};
 ghost use Rattle.table.specs.Table.{entry};
 ghost use Rattle.position.specs.Position.{WithinKnots, Belongs};
-ghost use Rattle.position.specs.Halving.{Among};
+ghost use Rattle.position.specs.Halving.{Among, halvings};
 
-// The piece that a position between the first and the last knot belongs to.
+// The piece that a position between the first and the last knot belongs to, where ten halvings are enough, as they are for every table that is accepted.
 pub(crate) fn piece(knots: &[i32], position: i32) -> usize
     requires { ⌜ 1 < length (now knots) ⌝ }
+    requires { ⌜ halvings (length (now knots) - 1) ≤ 10 ⌝ }
     requires { ⌜ WithinKnots (now knots) position ⌝ }
     ensures { λ r. ⌜ Belongs (now (knots .entry)) position r ⌝ }
 {

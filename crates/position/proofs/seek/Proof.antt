@@ -8,6 +8,7 @@ use Rattle.integers.specs.Decided.{told, denied}
 use Rattle.table.specs.Table.{Table, table}
 use Rattle.position.specs.Position.{WithinKnots}
 use Rattle.position.specs.Spot.{SpotOn, outside, on}
+use Rattle.position.specs.Halving.{ten-halvings}
 use Rattle.position.proofs.seek.Statement.{statement}
 use Rattle.position.proofs.seek.Tie as tie
 
@@ -23,7 +24,9 @@ returns c =
     outside (λ w. denied (c .before .within .ensures) (not-true _ (c .if1 .taken)) (subst (WithinKnots (s .args .knots .now)) (sym (toZ-ofZ (s .fits .position))) w))
 
 piece-requires : tie.Need-piece-requires
-piece-requires c κs = (omega (arith, c .before .before .pre .limits .count .low), told (c .before .within .ensures) (not-false _ (c .if1 .left)))
+piece-requires c κs =
+    let p = c .before .before .pre .limits in
+    (omega (arith, p .count .low), (ten-halvings p, told (c .before .within .ensures) (not-false _ (c .if1 .left))))
 
 spot-on-requires : tie.Need-spot-on-requires
 spot-on-requires c κs = (c .before .before .before .pre, c .piece .ensures)

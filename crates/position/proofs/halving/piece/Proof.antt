@@ -16,7 +16,7 @@ sub-end c = search needs
 among-requires : tie.Need-among-requires
 among-requires c κs =
     let s = c .before in
-    subst (λ (x : ℤ). Among (s .args .t1 .now) x 0 (length (s .args .t1 .now) - 1)) (sym (toZ-ofZ (s .fits .position))) (among-all (s .pre .0) (s .pre .1))
+    subst (λ (x : ℤ). Among (s .args .t1 .now) x 0 (length (s .args .t1 .now) - 1)) (sym (toZ-ofZ (s .fits .position))) (among-all (s .pre .0) (s .pre .1 .1))
 
 returns : tie.Need-returns
 returns c =
