@@ -169,11 +169,11 @@ static void enter(row *r, const copy *from)
 /* ---- the tables */
 
 /* Each call over a table: at the first knot, the last, one between and behind the last, and with a change of the point there that changes nothing, or
-   of none. No position is looked at where the table is refused, so that one is enough. */
+   of none. Where the table is refused one of them is enough: no position is looked at, and where a change is makes little difference. */
 static void enter_all(const copy *c, bool refused)
 {
     for (size_t i = 0; i < ROWS; i++) {
-        bool once = rows[i].with == NOTHING || (rows[i].with == AT_A_POSITION && refused);
+        bool once = rows[i].with == NOTHING || refused;
         for (size_t j = 0; j < (once ? 1 : PLACES); j++) {
             size_t k = places[j], there = k < LARGEST ? k : LARGEST - 1;
             position = c->knots[there] + (k != there);
@@ -208,11 +208,11 @@ static void fill_large(copy *c)
 
 static void enter_spoilt(const copy *from)
 {
-    static const size_t first = 0, last = LARGEST - 2, *const some[] = {NULL, &first, &last};
+    static const size_t first = 0, next_to_last = LARGEST - 3, last = LARGEST - 2, *const some[] = {NULL, &first, &next_to_last, &last};
     static copy c;
-    for (size_t i = 1; i < 3 * 3 * 3; i++) {
+    for (size_t i = 1; i < 4 * 4 * 4; i++) {
         c = *from;
-        spoil(&c, some[i % 3], some[i / 3 % 3], some[i / 9]);
+        spoil(&c, some[i % 4], some[i / 4 % 4], some[i / 16]);
         enter_all(&c, true);
     }
 }

@@ -27,6 +27,7 @@ GROUPS = (
     ("The table of before.", rows.last_table_again),
     # behind all that was there, so that no stored line of it gets another number
     ("The drive at each knot and beside it, of tables of 2 to 1024 points.", drives.each_knot),
+    ("A width that is too large, at and away from the changed point.", changes.too_wide_elsewhere),
 )
 
 

@@ -648,6 +648,14 @@ def dress():
         yield from SHOW_ALL[:2]
 
 
+def too_wide_elsewhere():
+    """A width that is too large, at each piece, and each point changed to what it is: the values rise as widths may, and tell nothing of it."""
+    for wide, point in product(range(5), range(6)):
+        knots = sums([WIDEST + 1 if piece == wide else 1 for piece in range(5)], 0)
+        yield from table(knots, range(6), [0] * 6)
+        yield from change_and_show(point, knots[point], point)
+
+
 GROUPS = (
     ("The changes of document 01.", figures),
     ("Each point of small tables changed.", every_point),
