@@ -9,7 +9,7 @@ use Rattle.integers.specs.Ring.{ring, quote}
 use Rattle.integers.specs.Linear.{lin, says}
 use Rattle.integers.specs.Order.{0<→1≤, positives}
 use Rattle.integers.specs.Within.{Within}
-use Rattle.integers.specs.Rounding.{Rounding, rounding-down}
+use Rattle.integers.specs.Rounding.{Rounding, rounding-nearest}
 use Rattle.cubic.specs.Piece.{riseAt, Monotone}
 use Rattle.cubic.specs.Value.{rounded, risen}
 use Rattle.cubic.specs.Along.{Along, along-through, part-within}
@@ -44,7 +44,7 @@ module _ {U h z m n : ℤ} (o : Monotone U h z m n) where
 -- ---- rounded
 
 rounding : Rounding rounded
-rounding = rounding-down
+rounding = rounding-nearest
 
 module _ {U h : ℤ} (U₀ : pos 0 <ℤ U) (h₀ : pos 0 <ℤ h) where
   below : pos 0 <ℤ (U *ℤ (h *ℤ h *ℤ h))

@@ -12,7 +12,7 @@ use Rattle.curve.specs.Curve.{ValueAt}
 abbrev pub falling : Table
 falling = table (pos 0 ∷ pos 3 ∷ []) (pos 0 ∷ negsuc 9 ∷ []) (negsuc 852 ∷ negsuc 852 ∷ [])
 
--- the values at the other positions, by the sampling program's lines; −4 at position 1 stands in `Sixteen.antt` of `demands`
+-- the values at the other positions, by the sampling program's lines; −3 at position 1 stands in `Sixteen.antt` of `demands`
 pub record Sampled : Type 0 where
   pub at-0 : ValueAt falling (pos 0) (pos 0)
   pub at-2 : ValueAt falling (pos 2) (negsuc 6)

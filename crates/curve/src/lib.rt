@@ -32,8 +32,8 @@ fn value_on(s: Spot) -> i32
     ((s.left as i64) + risen) as i32
 }
 
-// The value of the curve at a position, rounded down, or the refusal, in the order 1, 2, 3, 4, 5, 6: the whole table is checked first, whatever
-// slopes it has and wherever the position lies.
+// The value of the curve at a position, rounded to the nearest whole number, a half going up, or the refusal, in the order 1, 2, 3, 4, 5, 6: the whole table
+// is checked first, whatever slopes it has and wherever the position lies.
 pub fn evaluate(knots: &[i32], values: &[i32], slopes: &[i32], position: i32) -> Value
     ensures { λ r. ⌜ Evaluated (table (now (knots .entry)) (now (values .entry)) (now (slopes .entry))) position (r .refusal .number) (r .refusal .place) (r .value) ⌝ }
 {

@@ -193,6 +193,12 @@ pub 0≤-floor : {n : ℤ} (d : ℤ) → pos 0 ≤ℤ n → pos 0 ≤ℤ floorOf
 0≤-floor {n = pos n} (negsuc d) h = 0≤-number 0
 0≤-floor {n = negsuc n} d h = absurd (h .le)
 
+pub floor-at-most : {n : ℤ} (d : ℤ) → pos 0 ≤ℤ n → floorOf n d ≤ℤ n
+floor-at-most {n = pos n} (pos zero) h = 0≤-number n
+floor-at-most {n = pos n} (pos (suc d)) h = pos-≤ (div-le-self n (suc d))
+floor-at-most {n = pos n} (negsuc d) h = 0≤-number n
+floor-at-most {n = negsuc n} d h = absurd (h .le)
+
 pub floor-of : (n : ℤ) {d : ℤ} → pos 0 <ℤ d → Floor n d (floorOf n d)
 floor-of n {d = pos zero} h = absurd (h .lt)
 floor-of n {d = pos (suc d)} h = floor-is n d

@@ -6,6 +6,7 @@ pub mod Linear
 pub mod Order
 pub mod Signs
 pub mod Division
+pub mod Nearest
 pub mod Rounding
 pub mod Decided
 pub mod Within

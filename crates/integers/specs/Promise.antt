@@ -3,7 +3,7 @@
 use mathlib.Core.Path.{_≡_}
 use mathlib.Core.Bool.{Bool, true, false}
 use Prim.Native.Nat.{zero, suc, _/_}
-use lib.IntN.{ℤ, pos, negsuc, negℤ, natAbs, _+ℤ_, _*ℤ_}
+use lib.IntN.{ℤ, pos, negsuc, negℤ, natAbs, _+ℤ_, _-ℤ_, _*ℤ_}
 use lib.Signed.{_≤ℤ_, _<ℤ_}
 
 -- x lies between two numbers, both included.
@@ -31,6 +31,21 @@ floorOf n (negsuc d) = pos 0
 -- q is that number, as a relation, which shows n and d to a caller's proof.
 pub record Quotient (n d q : ℤ) : Type 0 where
   pub is : q ≡ floorOf n d
+
+-- q is the whole number nearest to n/d, for d > 0, and of two that are as near the upper one: it lies above n/d by a half at most, and below it by less. There is none
+-- for any other d.
+pub record Nearest (n d q : ℤ) : Type 0 where
+  pub above : (pos 2 *ℤ (q *ℤ d -ℤ n)) ≤ℤ d
+  pub below : (pos 2 *ℤ (n -ℤ q *ℤ d)) <ℤ d
+
+-- q is that number for d > 0, and 0 for any other d.
+pub record Rounded (n d q : ℤ) : Type 0 where
+  pub nearest : pos 0 <ℤ d → Nearest n d q
+  pub otherwise : d ≤ℤ pos 0 → q ≡ pos 0
+
+-- The same as a number that can be worked out: ⌊n/d + 1/2⌋ (`nearest-of` and `rounded-is` in Nearest.antt prove it).
+abbrev pub nearestOf : ℤ → ℤ → ℤ
+nearestOf n d = floorOf (pos 2 *ℤ n +ℤ d) (pos 2 *ℤ d)
 
 -- x without its sign
 abbrev pub magnitude : ℤ → ℤ

@@ -1,7 +1,10 @@
 // Signed arithmetic that is what the integers say: no result here is computed from a wrapped number.
 ghost use mathlib.Core.Path.{_≡_};
 ghost use lib.IntN.{_-ℤ_};
-ghost use Rattle.integers.specs.Promise.{Decided, Quotient, Between};
+ghost use Rattle.integers.specs.Promise.{Decided, Quotient, Rounded, Between};
+
+// 2^62: below it is a half of every number, and below it two numbers have a sum that fits.
+const ROOM: i64 = 4611686018427387904;
 
 // The difference of any two 32-bit numbers, right minus left. It is taken in 64 bits, where it always fits.
 pub fn difference(left: i32, right: i32) -> i64
@@ -33,4 +36,19 @@ pub fn floor_div(n: i64, d: i64) -> i64
         return q - 1;
     }
     q
+}
+
+// n/d rounded to the nearest whole number, a half going up, where d is positive, and 0 where it is not: a half of d is added, and the quotient is rounded down. That
+// half may be rounded down where d is odd, for 2n + d is odd then too. Where the sum might not fit, d is taken off it first, and 1 put on the quotient.
+pub fn nearest_div(n: i64, d: i64) -> i64
+    ensures { λ r. ⌜ Rounded n d r ⌝ }
+{
+    if d < 1 {
+        return 0;
+    }
+    let half = d / 2;
+    if n < ROOM {
+        return floor_div(n + half, d);
+    }
+    floor_div(n - d + half, d) + 1
 }

@@ -4,8 +4,9 @@ use mathlib.Core.List.{List, [], _∷_}
 use borrow.Author.Needs.{needs}
 use lib.IntN.{ℤ, pos}
 use mir.Syntax.{w32, w64}
-use Rattle.integers.specs.Promise.{Between, Quotient, floorOf}
+use Rattle.integers.specs.Promise.{Between, Rounded, nearestOf}
 use Rattle.integers.specs.Within.{Within}
+use Rattle.integers.specs.Nearest.{rounded-is, one-rounded}
 use Rattle.integers.specs.Sizes.{Known, known, held, fits, sized, plain-is, code, returned}
 use Rattle.integers.specs.Arguments.{arguments, plainly₂, plainly₄, as-coded₁, as-coded₂, as-coded₃}
 use Rattle.cubic.specs.Piece.{unit}
@@ -85,29 +86,29 @@ cubic-within c =
 
 -- ---- the denominator, and the quotient
 
-mul-floor-div : tie.Need-mul-floor-div
-mul-floor-div c = fits (given (c .before .before .before .before .before)) (search code depth 30 fits 9000) tt
+mul-nearest-div : tie.Need-mul-nearest-div
+mul-nearest-div c = fits (given (c .before .before .before .before .before)) (search code depth 30 fits 9000) tt
 
-mul-floor-div-2 : tie.Need-mul-floor-div-2
-mul-floor-div-2 c = fits (given (c .before .before .before .before .before)) (search code depth 30 fits 9000) tt
+mul-nearest-div-2 : tie.Need-mul-nearest-div-2
+mul-nearest-div-2 c = fits (given (c .before .before .before .before .before)) (search code depth 30 fits 9000) tt
 
-mul-floor-div-3 : tie.Need-mul-floor-div-3
-mul-floor-div-3 c = fits (given (c .before .before .before .before .before)) (search code depth 30 fits 9000) tt
+mul-nearest-div-3 : tie.Need-mul-nearest-div-3
+mul-nearest-div-3 c = fits (given (c .before .before .before .before .before)) (search code depth 30 fits 9000) tt
 
-floor-div-requires : tie.Need-floor-div-requires
-floor-div-requires c κs = search needs
+nearest-div-requires : tie.Need-nearest-div-requires
+nearest-div-requires c κs = search needs
 
 -- what was divided by what
-quotient : (c : tie.After-floor-div)
-    → let s = c .before .before .before .before .before .before .args in Quotient (c .before .numerator .result) (denominator unit (s .h)) (c .floor-div .result)
+quotient : (c : tie.After-nearest-div)
+    → let s = c .before .before .before .before .before .before .args in Rounded (c .before .numerator .result) (denominator unit (s .h)) (c .nearest-div .result)
 quotient c =
     let s = c .before .before .before .before .before .before in
-    plainly₂ (known (c .before .numerator .result) _ (cubic-within (c .before)) ∷ given s) (λ (n d : ℤ). Quotient n d (c .floor-div .result)) (c .floor-div .ensures) (search arguments depth 30 fits 9000) tt
+    plainly₂ (known (c .before .numerator .result) _ (cubic-within (c .before)) ∷ given s) (λ (n d : ℤ). Rounded n d (c .nearest-div .result)) (c .nearest-div .ensures) (search arguments depth 30 fits 9000) tt
 
 returns : tie.Need-returns
 returns c =
     let s = c .before .before .before .before .before .before .args in
-    returned w64 (c .floor-div .ok) (quotient c .is ∙ ap (λ (v : ℤ). floorOf v (denominator unit (s .h))) (is-cubic (c .before)))
+    returned w64 (c .nearest-div .ok) (one-rounded (quotient c) (rounded-is _ _) ∙ ap (λ (v : ℤ). nearestOf v (denominator unit (s .h))) (is-cubic (c .before)))
 
 pub risen-spec : {M : Type 1} → statement M
 risen-spec =
@@ -115,8 +116,8 @@ risen-spec =
     (tie.spec
     coefficients-requires
     numerator-requires
-    mul-floor-div
-    mul-floor-div-2
-    mul-floor-div-3
-    floor-div-requires
+    mul-nearest-div
+    mul-nearest-div-2
+    mul-nearest-div-3
+    nearest-div-requires
     returns)
