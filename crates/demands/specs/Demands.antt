@@ -1,5 +1,5 @@
--- The user's three demands, word for word, as predicates of any implementation, and what document 01 says of answers beside them. This file has no proof: it can be read from top
--- to bottom. `Met.antt` shows that ours meets them, as Rattle functions and as the library for C; `NothingElse.antt` that whatever meets them answers as ours does; and
+-- The user's three demands, word for word, as the requests of document 02 that are met amend them (6), as predicates of any implementation, and what document 01 says of answers beside them.
+-- This file has no proof: it can be read from top to bottom. `Met.antt` shows that ours meets them, as Rattle functions and as the library for C; `NothingElse.antt` that whatever meets them answers as ours does; and
 -- `Wrong1.antt`, `Wrong2.antt`, `Wrong3.antt` and `Wrong01.antt` of wrong programs that they do not.
 --
 -- How to read it:
@@ -227,9 +227,15 @@ module _ (h z m n : ℤ) where
     pub while-falling : z <ℤ pos 0 → (k q : ℕ) → 1 ≤ q → k ≤ q → slope k q ≤ℤ pos 0
     pub while-level : z ≡ pos 0 → (k q : ℕ) → 1 ≤ q → k ≤ q → rise k q ≡ pos 0
 
-  -- w is what the cubic has risen by, t counts into the piece, rounded down
-  abbrev pub RoundedDown : (t w : ℤ) → Type 0
-  RoundedDown t w = Floor (riseAt (unit *ℤ z) (m *ℤ h) (n *ℤ h) t h) (unit *ℤ (h *ℤ h *ℤ h)) w
+  -- v less the exact value, t counts into the piece, times 256·h³. The exact value is the left value and what the cubic has risen by since, which riseAt says times 256·h³.
+  abbrev pub lessExact : (left t v : ℤ) → ℤ
+  lessExact left t v = (v -ℤ left) *ℤ (unit *ℤ (h *ℤ h *ℤ h)) -ℤ riseAt (unit *ℤ z) (m *ℤ h) (n *ℤ h) t h
+
+  -- "rounded to the nearest whole number, a half going up, for rising and falling alike": |2·(v − exact)| is at most 1, and where it is 1 the whole number above the exact value is v. Nothing
+  -- is said of the rise.
+  pub record NearestToExact (left t v : ℤ) : Type 0 where
+    pub at-most-a-half-away : magnitude (pos 2 *ℤ lessExact left t v) ≤ℤ (unit *ℤ (h *ℤ h *ℤ h))
+    pub a-half-goes-up : magnitude (pos 2 *ℤ lessExact left t v) ≡ unit *ℤ (h *ℤ h *ℤ h) → pos 0 <ℤ lessExact left t v
 
 -- every piece of a table, with the slopes that it has, is so
 abbrev pub NoneAgainst : Table → Type 0
@@ -257,11 +263,11 @@ pub record RightSlopes (knots values slopes : List ℤ) : Type 0 where
   pub as-many : length slopes ≡ length knots
   pub each : (i : ℕ) → i < length knots → RightSlope knots values i (entry slopes i)
 
--- on the piece that the position x belongs to, v is the left value and what the cubic has risen by since, rounded down
-pub record ExactRoundedDown (t : Table) (x v : ℤ) : Type 0 where
+-- v is nearest to the exact value on the piece that the position x belongs to
+pub record ExactRounded (t : Table) (x v : ℤ) : Type 0 where
   pub piece : ℕ
   pub belongs : Belongs (t .knots) x piece
-  pub rounded-down : RoundedDown (step (t .knots) piece) (step (t .values) piece) (entry (t .slopes) piece) (entry (t .slopes) (piece + 1)) (x -ℤ entry (t .knots) piece) (v -ℤ entry (t .values) piece)
+  pub nearest : NearestToExact (step (t .knots) piece) (step (t .values) piece) (entry (t .slopes) piece) (entry (t .slopes) (piece + 1)) (entry (t .values) piece) (x -ℤ entry (t .knots) piece) v
 
 pub record Demand2 (I : Implementation) : Type 0 where
   -- "A piece within the limits gets a yes exactly when its cubic has no slope against its rise at any fraction of its width, or, without a rise, is level throughout,
@@ -276,8 +282,8 @@ pub record Demand2 (I : Implementation) : Type 0 where
   -- "and get a yes always."
   pub get-a-yes-always : {t : Table} {o : Outcome (build t)} {p : Outcome (check (table (t .knots) (t .values) (o .lists)))}
       → I .May (build t) o → o .number ≡ 0 → I .May (check (table (t .knots) (t .values) (o .lists))) p → p .number ≡ 0
-  -- "The position you answer is the exact cubic, rounded down."
-  pub the-position-you-answer : {t : Table} {x : ℤ} {o : Outcome (evaluate t x)} → I .May (evaluate t x) o → o .number ≡ 0 → ExactRoundedDown t x (o .answer)
+  -- "The value at a position becomes the exact value rounded to the nearest whole number, a half going up, for rising and falling alike." (document 02, request 6)
+  pub the-value-at-a-position : {t : Table} {x : ℤ} {o : Outcome (evaluate t x)} → I .May (evaluate t x) o → o .number ≡ 0 → ExactRounded t x (o .answer)
 
 -- ======== The third demand
 

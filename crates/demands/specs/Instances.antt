@@ -38,7 +38,7 @@ pub record Worked (I : Implementation) : Type 0 where
   pub a-build : I .May (build two) (outcome 0 0 tt (negsuc 852 ∷ negsuc 852 ∷ []))
   pub a-check : I .May (check two) (outcome 0 0 tt tt)
   pub a-piece : I .May (locate two (pos 1)) (outcome 0 0 0 tt)
-  pub a-value : I .May (evaluate two (pos 1)) (outcome 0 0 (negsuc 3) tt)
+  pub a-value : I .May (evaluate two (pos 1)) (outcome 0 0 (negsuc 2) tt)
   pub a-float-answer : I .May (float-answer two (pos 1)) (outcome 0 0 numerator tt)
   pub changed-points-are : I .May (changed-points lowering four) (outcome 0 0 tt tt)
   pub a-change : I .May (point [] lowering four) (outcome 0 0 tt lowered)

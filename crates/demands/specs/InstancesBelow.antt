@@ -34,6 +34,7 @@ use Rattle.demands.specs.SixteenGiven.{count}
 use Rattle.integers.proofs.difference.Reads as integers·difference
 use Rattle.integers.proofs.between.Reads as integers·between
 use Rattle.integers.proofs.floor_div.Reads as integers·floor_div
+use Rattle.integers.proofs.nearest_div.Reads as integers·nearest_div
 use Rattle.rules.proofs.count_within.Reads as rules·count_within
 use Rattle.rules.proofs.width_within.Reads as rules·width_within
 use Rattle.rules.proofs.rise_within.Reads as rules·rise_within
@@ -89,10 +90,11 @@ abbrev pub three : Signed
 three = record { negative = false; size = 3 }
 
 pub record WorkedBelow : Type 0 where
-  -- 2147483647 to −2147483648; 1 ≤ 1 ≤ 1024; −10 divided by 3
+  -- 2147483647 to −2147483648; 1 ≤ 1 ≤ 1024; −10 divided by 3, rounded down; −10 divided by 4, to the nearest
   pub difference : integers·difference.Post tt (pos 2147483647, (negsuc 2147483647, tt)) (negsuc 4294967294) (pos 2147483647, (negsuc 2147483647, tt))
   pub between : integers·between.Post tt (pos 1, (pos 1, (pos 1024, tt))) true (pos 1, (pos 1, (pos 1024, tt)))
   pub floor-div : integers·floor_div.Post tt (negsuc 9, (pos 3, tt)) (negsuc 3) (negsuc 9, (pos 3, tt))
+  pub nearest-div : integers·nearest_div.Post tt (negsuc 9, (pos 4, tt)) (negsuc 1) (negsuc 9, (pos 4, tt))
   -- the largest of each
   pub count-within : rules·count_within.Post tt (1024, tt) true (1024, tt)
   pub width-within : rules·width_within.Post tt (pos 1024, tt) true (pos 1024, tt)
@@ -139,6 +141,7 @@ worked-below =
       difference = refl;
       between = holds (within tt tt);
       floor-div = record { is = refl };
+      nearest-div = record { nearest = λ _. record { above = leZ-yes tt; below = ltZ-yes tt }; otherwise = λ l. absurd (l .le) };
       count-within = holds (count tt tt);
       width-within = holds (within tt tt);
       rise-within = holds (within tt tt);

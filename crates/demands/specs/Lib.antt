@@ -15,6 +15,7 @@ pub mod Shown
 pub mod Sixteen
 pub mod SixteenGiven
 pub mod Ties
+pub mod Values
 pub mod Wrong01
 pub mod Wrong1
 pub mod Wrong16

@@ -39,13 +39,14 @@ use Rattle.change.specs.Change.{Changed}
 use Rattle.change.specs.Chain as Chain
 use Rattle.change.specs.WhatIsWritten.{the-point-holds-the-new-knot, the-point-holds-the-new-value, the-slopes-at-it-and-beside-it-are-renewed, no-other-knot-changes, no-other-value-changes, no-other-slope-changes}
 use Rattle.change.specs.RefusedAsABuild.{made-only-then, made-then}
-use Rattle.demands.specs.Demands.{Call, judge, points, build, check, locate, evaluate, float-answer, changed-points, point, Outcome, Implementation, orderOf, HoldsAlone, width-outside, rise-outside, CauseOf, NoneHolds, opposite-ends, LooksAt, its-points, a-build, a-check, a-piece, a-value, a-float-answer, its-changed-points, a-change, lent, MayComeIn, Demand1, CalledByItsRise, it-rises, it-falls, it-is-flat, NoSlopeAgainstItsRise, NoneAgainst, RightSlope, RightSlopes, ExactRoundedDown, Demand2, ChainOf, none, next, JustThis, Demand3, nothing, Document01}
+use Rattle.demands.specs.Demands.{Call, judge, points, build, check, locate, evaluate, float-answer, changed-points, point, Outcome, Implementation, orderOf, HoldsAlone, width-outside, rise-outside, CauseOf, NoneHolds, opposite-ends, LooksAt, its-points, a-build, a-check, a-piece, a-value, a-float-answer, its-changed-points, a-change, lent, MayComeIn, Demand1, CalledByItsRise, it-rises, it-falls, it-is-flat, NoSlopeAgainstItsRise, NoneAgainst, RightSlope, RightSlopes, ExactRounded, Demand2, ChainOf, none, next, JustThis, Demand3, nothing, Document01}
 use Rattle.demands.specs.Ours.{ours, ours-in-C}
 use Rattle.demands.specs.Kept.{Promised, Keeps, ours-keeps, ours-in-C-keeps}
 use Rattle.demands.specs.ByOrder.{refused-exactly, none-given}
 use Rattle.demands.specs.Refuting.{apart}
 use Rattle.demands.specs.Cubic.{no-slope-against, monotone-without}
-use Rattle.demands.specs.Shown.{by-a-build, by-a-check, by-an-evaluation, by-a-float-answer, right-slope, value-floor, less-or-not}
+use Rattle.demands.specs.Shown.{by-a-build, by-a-check, by-an-evaluation, by-a-float-answer, right-slope, less-or-not}
+use Rattle.demands.specs.Values.{the-value-is-exact}
 
 -- ---- the parts of a ruling
 
@@ -174,10 +175,8 @@ module _ {knots values before after : List ℤ} {number place : ℕ} (e : number
         each = λ i l. subst (RightSlope knots values i) (sym (ap (λ (list : List ℤ). entry list i) (done-so .slopes) ∙ tab-entry (length knots) (builtSlope knots values) i l)) (right-slope (accepted-points refl (done-so .refusal)) i);
       }
 
-pub its-value-is-exact : {t : Table} {x v : ℤ} {number place : ℕ} → number ≡ 0 → Evaluated t x number place v → ExactRoundedDown t x v
-its-value-is-exact e p =
-    let at = answer-right e (p .value) in
-    record { piece = at .piece; belongs = at .belongs; rounded-down = value-floor (accepted-at e (p .refusal)) (at .belongs) (at .is) }
+pub its-value-is-exact : {t : Table} {x v : ℤ} {number place : ℕ} → number ≡ 0 → Evaluated t x number place v → ExactRounded t x v
+its-value-is-exact e p = the-value-is-exact (accepted-at e (p .refusal) .limits) (answer-right e (p .value))
 
 -- ---- 3
 
@@ -255,7 +254,7 @@ module _ {I : Implementation} (k : Keeps I) where
     so-does-a-table = λ {t} limits p. a-table-by-its-promise limits (k .promised (check t) _ p);
     slopes-you-build = λ {t} p e. its-slopes-are-right e (k .promised (build t) _ p);
     get-a-yes-always = λ {t} {o} p e q. one-given (k .promised (check (table (t .knots) (t .values) (o .lists))) _ q) (a-built-table-passes-the-table-check (done-so e (k .promised (build t) _ p))) .0;
-    the-position-you-answer = λ {t} {x} p e. its-value-is-exact e (k .promised (evaluate t x) _ p);
+    the-value-at-a-position = λ {t} {x} p e. its-value-is-exact e (k .promised (evaluate t x) _ p);
   }
 
   pub demand-3 : Demand3 I

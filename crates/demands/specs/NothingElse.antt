@@ -7,22 +7,17 @@ use mathlib.Core.List.{List, [], _∷_}
 use Prim.Native.Nat.{ℕ, zero, suc, _+_, _<_}
 use native.Mathlib.Nat.{eq-or-lt-of-le}
 use native.Mathlib.Omega.{arith}
-use lib.IntN.{ℤ, pos, _+ℤ_, _-ℤ_}
-use lib.Signed.{_<ℤ_, ltZ-yes}
+use lib.IntN.{ℤ, pos}
+use lib.Signed.{_<ℤ_}
 use lib.ListN.{length, set, length-set}
 use lib.Seq.{ext-getD, getD-set-same, getD-set-other}
-use Rattle.integers.specs.Linear.{lin, says}
-use Rattle.integers.specs.Order.{positives}
-use Rattle.integers.specs.Division.{floor-of, floor-unique}
-use Rattle.cubic.specs.Piece.{unit}
-use Rattle.cubic.specs.Value.{denominator}
 use Rattle.rules.specs.Known.{0<-width}
 use Rattle.rules.specs.Refusals.{Given, Answered}
 use Rattle.rules.specs.Order.{one-given, passes-at-0, kept, replaced, refused-answer, right-answer}
 use Rattle.rules.specs.Found.{SomeGiven}
 use Rattle.table.specs.declared.changed.Change.{Change}
 use Rattle.table.specs.Table.{Table, entry, step}
-use Rattle.table.specs.Accepted.{PointsWithin, Accepted, accepted-points}
+use Rattle.table.specs.Accepted.{PointsWithin, accepted-points}
 use Rattle.table.specs.WouldBe.{changedBy}
 use Rattle.table.specs.AfterChange.{point-there, equally-long, accepted-then}
 use Rattle.table.specs.Found.{every-table-has-an-answer-to-a-build, every-table-has-an-answer-to-a-check, every-change-has-an-answer}
@@ -33,13 +28,11 @@ use Rattle.piece.specs.Found.{every-piece-has-a-verdict}
 use Rattle.slopes.specs.Slopes.{builtSlope, builtSlopes}
 use Rattle.slopes.specs.Put.{tab-length, tab-entry}
 use Rattle.position.specs.Found.{every-position-has-an-answer}
-use Rattle.position.specs.Pieces.{within-list}
 use Rattle.position.specs.Refused.{accepted-at}
-use Rattle.curve.specs.Curve.{risenOn, ValueAt}
 use Rattle.drive.specs.Found.{every-float-answer-is-refused-or-not}
 use Rattle.change.specs.Change.{beside, renewedSlopes}
 use Rattle.change.specs.Beside.{beside-near, beside-far}
-use Rattle.demands.specs.Demands.{Call, judge, points, build, check, locate, evaluate, float-answer, changed-points, point, Outcome, Implementation, CauseOf, orderOf, Demand1, CalledByItsRise, it-rises, it-falls, it-is-flat, RightSlope, RightSlopes, ExactRoundedDown, Demand2, JustThis, Demand3, Document01}
+use Rattle.demands.specs.Demands.{Call, judge, points, build, check, locate, evaluate, float-answer, changed-points, point, Outcome, Implementation, CauseOf, orderOf, Demand1, CalledByItsRise, it-rises, it-falls, it-is-flat, RightSlope, RightSlopes, Demand2, JustThis, Demand3, Document01}
 use Rattle.demands.specs.ByOrder.{refused-exactly}
 use Rattle.demands.specs.Cubic.{monotone-without, no-slope-against}
 use Rattle.demands.specs.Kept.{Promised}
@@ -47,6 +40,7 @@ use Rattle.demands.specs.Met.{alone, findingOf, not-bends}
 use Rattle.demands.specs.Programs.{its-refusal}
 use Rattle.demands.specs.Rules.{one-end, one-mean}
 use Rattle.demands.specs.Shown.{right-slope, less-or-not}
+use Rattle.demands.specs.Values.{the-exact-is-the-value}
 
 -- ---- the number and the place
 
@@ -142,20 +136,6 @@ module _ {A : Type 0} {Right : A → Type 0} {otherwise : A} {number : ℕ} {a :
   answered-so : (number ≡ 0 → Right a) → ((number ≡ 0 → ⊥) → a ≡ otherwise) → Answered Right otherwise number a
   answered-so right none = ⊎-elim (λ e. right-answer e (right e)) (λ f. subst (Answered Right otherwise number) (sym (none f)) (refused-answer f)) (refused-or-not number)
 
--- ---- the value
-
-value-so : {t : Table} {x v : ℤ} → Accepted t → ExactRoundedDown t x v → ValueAt t x v
-value-so {t} {x} {v} a e = record { piece = e .piece; belongs = e .belongs; is = more v (entry (t .values) (e .piece)) (risenOn t (e .piece) x) (floor-unique below (e .rounded-down) (floor-of _ below)) }
-  where
-    more : (v l r : ℤ) → v -ℤ l ≡ r → v ≡ l +ℤ r
-    more v l r = lin (v ∷ l ∷ r ∷ []) (search says depth 30 fits 9000) (omega arith)
-
-    above-0 : {h : ℤ} → pos 0 <ℤ h → pos 0 <ℤ denominator unit h
-    above-0 {h} h₀ = let u : pos 0 <ℤ unit = ltZ-yes tt in search positives
-
-    below : pos 0 <ℤ denominator unit (step (t .knots) (e .piece))
-    below = above-0 (0<-width (a .limits .widths (e .piece) (within-list (e .belongs))))
-
 -- ---- a change
 
 -- a list with one entry changed
@@ -213,7 +193,7 @@ module _ {I : Implementation} (d : Demand1 I) (e : Demand2 I) (f : Demand3 I) (g
   nothing-else (locate t x) o may = record { refusal = its-given d (locate t x) o may; piece = answered-so (g .the-piece-of-a-position may) (g .a-refused-call-answers-nothing may) }
   nothing-else (evaluate t x) o may =
       let r = its-given d (evaluate t x) o may in
-      record { refusal = r; value = answered-so (λ k. value-so (accepted-at k r) (e .the-position-you-answer may k)) (g .a-refused-call-answers-nothing may) }
+      record { refusal = r; value = answered-so (λ k. the-exact-is-the-value (accepted-at k r .limits) (e .the-value-at-a-position may k)) (g .a-refused-call-answers-nothing may) }
   nothing-else (float-answer t x) o may = record { refusal = its-given d (float-answer t x) o may; answer = answered-so (g .what-the-drive-is-told may) (g .a-refused-call-answers-nothing may) }
   nothing-else (changed-points c t) o may = its-given d (changed-points c t) o may
   nothing-else (point made c t) o may =

@@ -127,12 +127,12 @@ four-built before l = has-slopes four-within refl l
 pub two-passes : Given (Holds two) checkOrder 0 0
 two-passes = a-built-table-passes-the-table-check (two-built (two .slopes) refl)
 
--- −4 at position 1 of (0,0), (3,−10)
+-- −3 at position 1 of (0,0), (3,−10)
 pub at-1 : Belongs (two .knots) (pos 1) 0
 at-1 = inside {i = 0} (lit< tt) (leZ-yes tt) (ltZ-yes tt)
 
-pub minus-four : Evaluated two (pos 1) 0 0 (negsuc 3)
-minus-four = has-value {before = two .slopes} (within tt tt) at-1 refl (two-built (two .slopes) refl)
+pub minus-three : Evaluated two (pos 1) 0 0 (negsuc 2)
+minus-three = has-value {before = two .slopes} (within tt tt) at-1 refl (two-built (two .slopes) refl)
 
 -- ---- a verdict by the paper's test, which "prints the last test with "<" and asks for equal signs of slopes and rise"; 1, 1, 768, 768 does not pass it
 

@@ -1,4 +1,4 @@
--- What the demands say of single cases: two counts at opposite ends of 32 bits, the slope at a point, the value on a piece.
+-- What the demands say of single cases: two counts at opposite ends of 32 bits, and the slope at a point. `Values.antt` has the value on a piece.
 use mathlib.Core.Path.{_≡_, refl, sym, _∙_, ap, subst}
 use mathlib.Core.Bool.{Bool, true, false, not}
 use mathlib.Core.Logic.{_⊎_, inl, inr}
@@ -6,30 +6,21 @@ use mathlib.Core.List.{List, [], _∷_}
 use Prim.Native.Nat.{ℕ, _+_, _-_, _<_, _≤_}
 use native.Mathlib.Omega.{arith}
 use lib.Dec.{T, leb, leb→le, nleb→lt}
-use lib.IntN.{ℤ, pos, _+ℤ_, _-ℤ_}
-use lib.Signed.{_<ℤ_, ltZ-yes}
+use lib.IntN.{ℤ}
 use lib.ListN.{length}
-use Rattle.integers.specs.Promise.{Floor}
-use Rattle.integers.specs.Linear.{lin, says}
-use Rattle.integers.specs.Order.{positives}
-use Rattle.integers.specs.Division.{floor-of}
-use Rattle.cubic.specs.Piece.{unit}
-use Rattle.cubic.specs.Value.{denominator}
 use Rattle.rules.specs.Known.{0<-width}
 use Rattle.rules.specs.Refusals.{Given}
 use Rattle.rules.specs.Order.{stopped}
-use Rattle.table.specs.Table.{Table, entry, step, Holds, buildOrder, checkOrder}
-use Rattle.table.specs.Accepted.{PointsWithin, Accepted}
+use Rattle.table.specs.Table.{step, Holds, buildOrder, checkOrder}
+use Rattle.table.specs.Accepted.{PointsWithin}
 use Rattle.slopes.specs.Slopes.{innerAt, endAt, builtSlope}
 use Rattle.slopes.specs.Cases.{first-slope, inner-slope, last-slope}
 use Rattle.slopes.specs.Figures.{ends-of-32-bits-are-refused}
-use Rattle.position.specs.Position.{Belongs, HoldsAt, evaluationOrder}
-use Rattle.position.specs.Pieces.{within-list}
+use Rattle.position.specs.Position.{HoldsAt, evaluationOrder}
 use Rattle.position.specs.Refused.{as-checked}
-use Rattle.curve.specs.Curve.{valueOn}
 use Rattle.drive.specs.Drive.{HoldsFor, floatOrder}
 use Rattle.drive.specs.Refused.{as-evaluated}
-use Rattle.demands.specs.Demands.{opposite-ends, EndRule, MeanRule, RightSlope, RoundedDown}
+use Rattle.demands.specs.Demands.{opposite-ends, EndRule, MeanRule, RightSlope}
 use Rattle.demands.specs.Rules.{end-rule, mean-rule}
 
 -- ---- two counts at opposite ends of 32 bits
@@ -68,19 +59,6 @@ right-slope {ks} {vs} p i = record { first = first; inner = inner; last = last }
     last j e l =
         subst (EndRule (step ks j) (step vs j)) (ap (endAt ks vs) (before j e) ∙ last-slope ks vs i (λ (z : i ≡ 0). omega arith) (omega arith))
         (end-rule (step vs j) (0<-width (p .widths j (omega arith))))
-
--- ---- the value on a piece is the exact cubic, rounded down, put on the left value
-
-pub value-floor : {t : Table} {x v : ℤ} {i : ℕ} → Accepted t → Belongs (t .knots) x i → v ≡ valueOn t i x
-    → RoundedDown (step (t .knots) i) (step (t .values) i) (entry (t .slopes) i) (entry (t .slopes) (i + 1)) (x -ℤ entry (t .knots) i) (v -ℤ entry (t .values) i)
-value-floor {t} {x} {v} {i} a b e =
-    subst (Floor _ _) (sym (more v (entry (t .values) i) _ e)) (floor-of _ (below (0<-width (a .limits .widths i (within-list b)))))
-  where
-    more : (v l r : ℤ) → v ≡ l +ℤ r → v -ℤ l ≡ r
-    more v l r = lin (v ∷ l ∷ r ∷ []) (search says depth 30 fits 9000) (omega arith)
-
-    below : {h : ℤ} → pos 0 <ℤ h → pos 0 <ℤ denominator unit h
-    below {h} h₀ = let u : pos 0 <ℤ unit = ltZ-yes tt in search positives
 
 -- ---- a number is below another or not
 

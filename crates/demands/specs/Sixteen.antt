@@ -33,7 +33,7 @@ sixteen =
     ∷ slopes (pos 0 ∷ pos 1 ∷ pos 2 ∷ []) (pos 0 ∷ pos 1 ∷ pos 4 ∷ []) (pos 256 ∷ pos 384 ∷ pos 768 ∷ [])
     ∷ slopes (pos 0 ∷ pos 1 ∷ pos 3 ∷ []) (pos 0 ∷ pos 1 ∷ pos 2 ∷ []) (pos 256 ∷ pos 177 ∷ pos 128 ∷ [])
     ∷ slopes (pos 0 ∷ pos 3 ∷ []) (pos 0 ∷ negsuc 9 ∷ []) (negsuc 852 ∷ negsuc 852 ∷ [])
-    ∷ value (pos 0 ∷ pos 3 ∷ []) (pos 0 ∷ negsuc 9 ∷ []) (pos 1) (negsuc 3)
+    ∷ value (pos 0 ∷ pos 3 ∷ []) (pos 0 ∷ negsuc 9 ∷ []) (pos 1) (negsuc 2)
     ∷ []
 
 module _ (I : Implementation) where

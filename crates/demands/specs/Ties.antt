@@ -7,6 +7,7 @@ use Prim.Native.Nat.{ℕ}
 use lib.IntN.{ℤ}
 use denote.Ref.{RefT, now}
 use Rattle.integers.specs.Decided.{one-decision}
+use Rattle.integers.specs.Nearest.{one-rounded}
 use Rattle.words.specs.Determined.{one-count, one-buffer}
 use Rattle.lines.specs.Determined.{one-taken, one-line}
 use Rattle.lists.specs.Determined.{one-set, one-list}
@@ -35,6 +36,7 @@ use Rattle.exports.specs.Determined.{one-judgement, one-told, one-span, one-rea
 use Rattle.integers.proofs.difference.Reads as integers·difference
 use Rattle.integers.proofs.between.Reads as integers·between
 use Rattle.integers.proofs.floor_div.Reads as integers·floor_div
+use Rattle.integers.proofs.nearest_div.Reads as integers·nearest_div
 use Rattle.words.proofs.find.Reads as words·find
 use Rattle.words.proofs.content.Reads as words·content
 use Rattle.words.proofs.next_word.Reads as words·next_word
@@ -76,6 +78,7 @@ use Rattle.change.proofs.point.Reads as change·point
 use Rattle.exports.proofs.negwafir_difference.Reads as exports·negwafir_difference
 use Rattle.exports.proofs.negwafir_between.Reads as exports·negwafir_between
 use Rattle.exports.proofs.negwafir_floor_div.Reads as exports·negwafir_floor_div
+use Rattle.exports.proofs.negwafir_nearest_div.Reads as exports·negwafir_nearest_div
 use Rattle.exports.proofs.negwafir_find.Reads as exports·negwafir_find
 use Rattle.exports.proofs.negwafir_content.Reads as exports·negwafir_content
 use Rattle.exports.proofs.negwafir_next_word.Reads as exports·negwafir_next_word
@@ -170,6 +173,9 @@ integers·between-tied = (λ κs a. tt, λ κs a r s x y p q. one-decision p q)
 
 pub integers·floor_div-tied : Tied integers·floor_div.Pre integers·floor_div.Post result
 integers·floor_div-tied = (λ κs a. tt, λ κs a r s x y p q. p .is ∙ sym (q .is))
+
+pub integers·nearest_div-tied : Tied integers·nearest_div.Pre integers·nearest_div.Post result
+integers·nearest_div-tied = (λ κs a. tt, λ κs a r s x y p q. one-rounded p q)
 
 -- ---- words
 
@@ -323,6 +329,9 @@ exports·negwafir_between-tied = (λ κs a. tt, λ κs a r s x y p q. one-decisi
 
 pub exports·negwafir_floor_div-tied : Tied exports·negwafir_floor_div.Pre exports·negwafir_floor_div.Post result
 exports·negwafir_floor_div-tied = (λ κs a. tt, λ κs a r s x y p q. p .is ∙ sym (q .is))
+
+pub exports·negwafir_nearest_div-tied : Tied exports·negwafir_nearest_div.Pre exports·negwafir_nearest_div.Post result
+exports·negwafir_nearest_div-tied = (λ κs a. tt, λ κs a r s x y p q. one-rounded p q)
 
 pub exports·negwafir_find-tied : Tied exports·negwafir_find.Pre exports·negwafir_find.Post result
 exports·negwafir_find-tied = (λ κs a. tt, λ κs a r s x y p q. p ∙ sym q)

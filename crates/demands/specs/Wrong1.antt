@@ -150,7 +150,7 @@ pub only-the-wanted-piece-looked-at : Demand1 (answering (another-evaluate (λ t
 only-the-wanted-piece-looked-at d =
     absurd (omega (
       arith,
-      its-refusal d (evaluate faulty-elsewhere (pos 1)) (outcome 0 0 (negsuc 3) tt) (0, (in-piece-0, has-value {before = two .slopes} (within tt tt) in-two refl (two-built (two .slopes) refl))) (omega arith)
+      its-refusal d (evaluate faulty-elsewhere (pos 1)) (outcome 0 0 (negsuc 2) tt) (0, (in-piece-0, has-value {before = two .slopes} (within tt tt) in-two refl (two-built (two .slopes) refl))) (omega arith)
           (stopped (6 ∷ []) (λ e. omega arith) (as-checked (stopped (5 ∷ []) (λ e. omega arith) (second-width {t = faulty-elsewhere} (record { values = refl; slopes = refl }) (count tt tt) (lit< tt) (within tt tt) (λ w. w .low .le))))) .0,
     ))
   where

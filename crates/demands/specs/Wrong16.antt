@@ -1,9 +1,12 @@
 -- Wrong programs that do not give the sixteen, each by one of them.
-use mathlib.Core.Path.{refl, ap}
+use mathlib.Core.Path.{_≡_, refl, ap}
 use mathlib.Core.List.{List, [], _∷_}
 use Prim.Native.Nat.{ℕ, zero, suc}
-use lib.IntN.{ℤ, pos, negsuc}
+use lib.IntN.{ℤ, pos, negsuc, _+ℤ_}
 use lib.Signed.{leZ-yes, ltZ-yes}
+use Rattle.integers.specs.Promise.{floorOf}
+use Rattle.cubic.specs.Piece.{unit}
+use Rattle.cubic.specs.Value.{numerator, denominator}
 use Rattle.table.specs.Accepted.{points-accepted}
 use Rattle.table.specs.Table.{entry}
 use Rattle.rules.specs.Refusals.{answered}
@@ -11,8 +14,8 @@ use Rattle.piece.specs.Promise.{Finding, rising, falling, flat, bends}
 use Rattle.demands.specs.Demands.{Implementation}
 use Rattle.demands.specs.Sixteen.{Case, Gives, All, none, _&_, TheSixteen}
 use Rattle.demands.specs.Refuting.{numbers-differ}
-use Rattle.demands.specs.Programs.{outcome, answering, another-judge, two, two-built, three-within, at-1, minus-four, ByThePaper, turned-away, not-by-less}
-use Rattle.demands.specs.Wrong2.{BySigns, leaving, idle-afterwards, rising-by, toward-zero}
+use Rattle.demands.specs.Programs.{outcome, answering, another-judge, two, two-built, three-within, at-1, minus-three, ByThePaper, turned-away, not-by-less}
+use Rattle.demands.specs.Wrong2.{BySigns, leaving, idle-afterwards, valued-by, rounded-by, nearest-toward-zero}
 
 -- what case i of a list says
 abbrev Says : Implementation → List Case → ℕ → Type 0
@@ -47,10 +50,15 @@ not-by-an-idle-builder s =
     let before = pos 0 ∷ pos 0 ∷ pos 0 ∷ [] in
     numbers-differ tt (ap (λ (slopes : List ℤ). entry slopes 1) (case (s .each-is-given) 12 before refl .1 (outcome 0 0 tt (pos 256 ∷ pos 0 ∷ pos 0 ∷ [])) (points-accepted three-within refl, refl) .2))
 
--- the last: (0,0), (3,−10) have −4 at position 1
-pub not-by-division-toward-zero : TheSixteen (answering (rising-by toward-zero)) → ⊥
-not-by-division-toward-zero s =
-    numbers-differ tt (case (s .each-is-given) 15 (two .slopes) refl (outcome 0 0 tt (two .slopes)) (two-built (two .slopes) refl) .1 (outcome 0 0 (negsuc 2) tt) (minus-four .refusal, answered (0, (at-1, refl))) .2)
+-- the last: (0,0), (3,−10) have −3 at position 1, and not −4 or −2
+at-the-last : (round : ℤ → ℤ → ℤ) → TheSixteen (answering (valued-by (rounded-by round))) → pos 0 +ℤ round (numerator unit (pos 3) (negsuc 9) (negsuc 852) (negsuc 852) (pos 1)) (denominator unit (pos 3)) ≡ negsuc 2
+at-the-last round s = case (s .each-is-given) 15 (two .slopes) refl (outcome 0 0 tt (two .slopes)) (two-built (two .slopes) refl) .1 (outcome 0 0 _ tt) (minus-three .refusal, answered (0, (at-1, refl))) .2
+
+pub not-by-rounding-down : TheSixteen (answering (valued-by (rounded-by floorOf))) → ⊥
+not-by-rounding-down s = numbers-differ tt (at-the-last floorOf s)
+
+pub not-by-division-toward-zero : TheSixteen (answering (valued-by (rounded-by nearest-toward-zero))) → ⊥
+not-by-division-toward-zero s = numbers-differ tt (at-the-last nearest-toward-zero s)
 
 -- the first: 1, 1, 256, 256 is answered at all
 pub not-by-silence : TheSixteen (answering (λ call o. ⊥)) → ⊥

@@ -1,39 +1,36 @@
 -- Wrong programs that break the second demand, each ours but for what is said of it. Between quotation marks are the words in which document 01 names it.
-use mathlib.Core.Path.{_≡_, refl, subst}
+use mathlib.Core.Path.{_≡_, refl}
 use mathlib.Core.List.{List, [], _∷_}
 use Prim.Native.Nat.{ℕ, _+_}
 use native.Mathlib.Omega.{arith}
 use lib.Dec.{lit<, lit≤}
-use lib.IntN.{ℤ, pos, negsuc, _+ℤ_, _-ℤ_, _*ℤ_}
+use lib.IntN.{ℤ, pos, negsuc, negℤ, _+ℤ_, _-ℤ_, _*ℤ_}
 use lib.Signed.{_≤ℤ_, _<ℤ_, leZ-yes, ltZ-yes}
 use lib.ListN.{length, set}
-use Rattle.integers.specs.Promise.{floorOf, magnitude, towardZero}
-use Rattle.integers.specs.Linear.{lin, says}
-use Rattle.integers.specs.Order.{positives}
-use Rattle.integers.specs.Division.{floor-unique}
+use Rattle.integers.specs.Promise.{floorOf, nearestOf, magnitude, withSign, towardZero}
 use Rattle.cubic.specs.Piece.{unit}
 use Rattle.cubic.specs.Slopes.{meanBelow, mean}
 use Rattle.cubic.specs.Value.{numerator, denominator, risen}
 use Rattle.cubic.specs.Monotone.{monotone-rising}
 use Rattle.cubic.specs.Test.{line, oval, short-accepts}
 use Rattle.rules.specs.Refusals.{Given, afterwards, Answered, answered}
-use Rattle.rules.specs.Known.{0<-width}
 use Rattle.table.specs.Table.{Table, table, entry, step, Holds, buildOrder}
 use Rattle.table.specs.Accepted.{PointsWithin, points-accepted, accepted-table}
 use Rattle.table.specs.Tested.{points-by-test}
 use Rattle.piece.specs.Promise.{rising, falling, flat, bends}
 use Rattle.slopes.specs.Slopes.{builtSlope, builtSlopes, Built}
 use Rattle.position.specs.Position.{Belongs, inside, HoldsAt, evaluationOrder}
-use Rattle.position.specs.Pieces.{one-piece, within-list}
 use Rattle.curve.specs.Curve.{Evaluated}
-use Rattle.demands.specs.Demands.{Call, judge, Outcome, CalledByItsRise, it-falls, NoSlopeAgainstItsRise, RoundedDown, ExactRoundedDown, RightSlopes, Demand2}
+use Rattle.curve.specs.Determined.{one-evaluation}
+use Rattle.demands.specs.Demands.{Call, judge, Outcome, CalledByItsRise, it-falls, NoSlopeAgainstItsRise, RightSlopes, Demand2}
 use Rattle.demands.specs.Ours.{May}
 use Rattle.demands.specs.ByOrder.{none-holds}
 use Rattle.demands.specs.Cubic.{no-slope-against}
-use Rattle.demands.specs.Met.{not-bends, its-value-is-exact}
+use Rattle.demands.specs.Met.{not-bends}
 use Rattle.demands.specs.SixteenGiven.{count, has-slopes, has-value}
 use Rattle.demands.specs.Refuting.{within, numbers-differ}
-use Rattle.demands.specs.Programs.{outcome, answering, another-judge, another-build, another-check, another-evaluate, two, two-within, two-built, two-passes, three, three-within, at-1, minus-four, ByThePaper, turned-away, not-by-less}
+use Rattle.demands.specs.Programs.{outcome, answering, another-judge, another-build, another-check, another-evaluate, two, two-within, two-built, two-passes, three, three-within, at-1, minus-three, ByThePaper, turned-away, not-by-less}
+use Rattle.demands.specs.Values.{the-exact-is-the-value}
 
 -- ======== "A piece within the limits gets a yes exactly when its cubic has no slope against its rise at any fraction of its width ..": no yes where there is to be one
 
@@ -177,62 +174,133 @@ pub a-mean-without-its-sign : Demand2 (answering (leaving (but-at 1 sizes-alone)
 a-mean-without-its-sign d =
     numbers-differ tt (left d (table (pos 0 ∷ pos 1 ∷ pos 2 ∷ []) (pos 0 ∷ negsuc 0 ∷ negsuc 1 ∷ []) at-rest) (points-by-test _ _ refl (count tt tt) tt) refl .each 1 (lit< tt) .inner 0 refl (lit< tt) .sign (ltZ-yes tt))
 
--- ======== "The position you answer is the exact cubic, rounded down."
+-- ======== "The value at a position becomes the exact value rounded to the nearest whole number, a half going up, for rising and falling alike."
 
--- an evaluation that refuses as ours does, and where it does not puts this on the left value of the piece that the position belongs to
-abbrev pub rising-by : ((h z m n t : ℤ) → ℤ) → (call : Call) → Outcome call → Type 0
-rising-by more =
+-- an evaluation that refuses as ours does, and where it does not answers this: of the left value, width, rise and slopes of the piece that the position belongs to, and the counts into it
+abbrev pub valued-by : ((left h z m n t : ℤ) → ℤ) → (call : Call) → Outcome call → Type 0
+valued-by value =
     another-evaluate (λ t x o. Given (HoldsAt t x) evaluationOrder (o .number) (o .place)
-    × Answered (λ v. (i : ℕ) × (Belongs (t .knots) x i × (v ≡ entry (t .values) i +ℤ more (step (t .knots) i) (step (t .values) i) (entry (t .slopes) i) (entry (t .slopes) (i + 1)) (x -ℤ entry (t .knots) i)))) (pos 0) (o .number) (o .answer))
+    × Answered (λ v. (i : ℕ) × (Belongs (t .knots) x i × (v ≡ value (entry (t .values) i) (step (t .knots) i) (step (t .values) i) (entry (t .slopes) i) (entry (t .slopes) (i + 1)) (x -ℤ entry (t .knots) i)))) (pos 0) (o .number) (o .answer))
 
--- one number only is the exact cubic, rounded down
-one-exact : {t : Table} {x v w : ℤ} → PointsWithin (t .knots) (t .values) → ExactRoundedDown t x v → ExactRoundedDown t x w → v ≡ w
-one-exact {t} {x} {v} {w} p e f =
-    same v w (entry (t .values) (f .piece)) (floor-unique (below (0<-width (p .widths (f .piece) (within-list (f .belongs)))))
-    (subst (λ (i : ℕ). RoundedDown (step (t .knots) i) (step (t .values) i) (entry (t .slopes) i) (entry (t .slopes) (i + 1)) (x -ℤ entry (t .knots) i) (v -ℤ entry (t .values) i)) (one-piece p (e .belongs) (f .belongs)) (e .rounded-down)) (f .rounded-down))
+-- the left value and something more, and this is the quotient, rounded in some way
+abbrev pub plus : ((h z m n t : ℤ) → ℤ) → (left h z m n t : ℤ) → ℤ
+plus more left h z m n t = left +ℤ more h z m n t
+
+abbrev pub rounded-by : ((n d : ℤ) → ℤ) → (left h z m n t : ℤ) → ℤ
+rounded-by round left h z m n t = left +ℤ round (numerator unit h z m n t) (denominator unit h)
+
+-- in the first piece of a table such a program is to answer what ours does
+the-same : (value : (left h z m n t : ℤ) → ℤ) → Demand2 (answering (valued-by value)) → {ks vs ss : List ℤ} {x v : ℤ} → PointsWithin ks vs → Belongs ks x 0 → Evaluated (table ks vs ss) x 0 0 v
+    → value (entry vs 0) (step ks 0) (step vs 0) (entry ss 0) (entry ss 1) (x -ℤ entry ks 0) ≡ v
+the-same value d {ks} {vs} {ss} {x} p i e =
+    let w = value (entry vs 0) (step ks 0) (step vs 0) (entry ss 0) (entry ss 1) (x -ℤ entry ks 0) in
+    let its = the-exact-is-the-value p (d .the-value-at-a-position {t = table ks vs ss} {x = x} {o = outcome 0 0 w tt} (e .refusal, answered (0, (i, refl))) refl) in
+    one-evaluation (record { refusal = e .refusal; value = answered its }) e .2
+
+-- at position 1 of (0,0), (3,−10) it is −3, and at 2 it is −7
+on-the-fall : (value : (left h z m n t : ℤ) → ℤ) → Demand2 (answering (valued-by value)) → value (pos 0) (pos 3) (negsuc 9) (negsuc 852) (negsuc 852) (pos 1) ≡ negsuc 2
+on-the-fall value d = the-same value d two-within at-1 minus-three
+
+further-on : (value : (left h z m n t : ℤ) → ℤ) → Demand2 (answering (valued-by value)) → value (pos 0) (pos 3) (negsuc 9) (negsuc 852) (negsuc 852) (pos 2) ≡ negsuc 6
+further-on value d = the-same value d two-within at-2 (has-value {before = two .slopes} (within tt tt) at-2 refl (two-built (two .slopes) refl))
   where
-    same : (v w l : ℤ) → v -ℤ l ≡ w -ℤ l → v ≡ w
-    same v w l = lin (v ∷ w ∷ l ∷ []) (search says depth 30 fits 9000) (omega arith)
+    at-2 : Belongs (two .knots) (pos 2) 0
+    at-2 = inside {i = 0} (lit< tt) (leZ-yes tt) (ltZ-yes tt)
 
-    below : {h : ℤ} → pos 0 <ℤ h → pos 0 <ℤ denominator unit h
-    below {h} h₀ = let u : pos 0 <ℤ unit = ltZ-yes tt in search positives
+-- halves, at position 1: of (0,0), (2,1) it is 1, of (0,0), (2,−1) it is 0, and so it is of (0,−1), (2,0)
+abbrev 0-2 : List ℤ
+0-2 = pos 0 ∷ pos 2 ∷ []
 
--- so such a program is to answer what ours does, in the first piece of a built table
-the-same : (more : (h z m n t : ℤ) → ℤ) → Demand2 (answering (rising-by more)) → {ks vs ss : List ℤ} {x v : ℤ} → PointsWithin ks vs → Built ks vs ss ss 0 0 → Belongs ks x 0 → Evaluated (table ks vs ss) x 0 0 v
-    → entry vs 0 +ℤ more (step ks 0) (step vs 0) (entry ss 0) (entry ss 1) (x -ℤ entry ks 0) ≡ v
-the-same more d {ks} {vs} {ss} {x} p b i e =
-    one-exact p (d .the-position-you-answer {t = table ks vs ss} {x = x} {o = outcome 0 0 (entry vs 0 +ℤ more (step ks 0) (step vs 0) (entry ss 0) (entry ss 1) (x -ℤ entry ks 0)) tt} (e .refusal, answered (0, (i, refl))) refl) (its-value-is-exact refl e)
+halfway : Belongs 0-2 (pos 1) 0
+halfway = inside {i = 0} (lit< tt) (leZ-yes tt) (ltZ-yes tt)
 
--- nothing; the exact quotient rounded toward zero; and the cubic from its other end
-abbrev pub nothing-more : (h z m n t : ℤ) → ℤ
-nothing-more h z m n t = pos 0
+half-a-rise : (value : (left h z m n t : ℤ) → ℤ) → Demand2 (answering (valued-by value)) → value (pos 0) (pos 2) (pos 1) (pos 128) (pos 128) (pos 1) ≡ pos 1
+half-a-rise value d = the-same value d rises halfway (has-value {before = 0-2} (within tt tt) halfway refl (has-slopes rises refl refl))
+  where
+    rises : PointsWithin 0-2 (pos 0 ∷ pos 1 ∷ [])
+    rises = points-by-test _ _ refl (count tt tt) tt
 
-abbrev pub toward-zero : (h z m n t : ℤ) → ℤ
-toward-zero h z m n t = towardZero (numerator unit h z m n t) (denominator unit h)
+half-a-fall : (value : (left h z m n t : ℤ) → ℤ) → Demand2 (answering (valued-by value)) → value (pos 0) (pos 2) (negsuc 0) (negsuc 127) (negsuc 127) (pos 1) ≡ pos 0
+half-a-fall value d = the-same value d falls halfway (has-value {before = 0-2} (within tt tt) halfway refl (has-slopes falls refl refl))
+  where
+    falls : PointsWithin 0-2 (pos 0 ∷ negsuc 0 ∷ [])
+    falls = points-by-test _ _ refl (count tt tt) tt
 
+half-below-0 : (value : (left h z m n t : ℤ) → ℤ) → Demand2 (answering (valued-by value)) → value (negsuc 0) (pos 2) (pos 1) (pos 128) (pos 128) (pos 1) ≡ pos 0
+half-below-0 value d = the-same value d rises halfway (has-value {before = 0-2} (within tt tt) halfway refl (has-slopes rises refl refl))
+  where
+    rises : PointsWithin 0-2 (negsuc 0 ∷ pos 0 ∷ [])
+    rises = points-by-test _ _ refl (count tt tt) tt
+
+-- "an evaluation that answers the left value (demand 2)"
+pub an-evaluation-that-answers-the-left-value : Demand2 (answering (valued-by (plus (λ h z m n t. pos 0)))) → ⊥
+an-evaluation-that-answers-the-left-value d = numbers-differ tt (on-the-fall (plus (λ h z m n t. pos 0)) d)
+
+-- rounding down, as it was right until request 6: −4
+pub a-value-rounded-down : Demand2 (answering (valued-by (rounded-by floorOf))) → ⊥
+a-value-rounded-down d = numbers-differ tt (on-the-fall (rounded-by floorOf) d)
+
+-- rounding toward zero, which is right at 1, but at 2 gives −6
+pub a-value-rounded-toward-zero : Demand2 (answering (valued-by (rounded-by towardZero))) → ⊥
+a-value-rounded-toward-zero d = numbers-differ tt (further-on (rounded-by towardZero) d)
+
+-- "Dividing toward zero on a falling piece", of what is rounded: −2
+abbrev pub nearest-toward-zero : (n d : ℤ) → ℤ
+nearest-toward-zero n d = towardZero (pos 2 *ℤ n +ℤ d) (pos 2 *ℤ d)
+
+pub division-toward-zero-on-a-fall : Demand2 (answering (valued-by (rounded-by nearest-toward-zero))) → ⊥
+division-toward-zero-on-a-fall d = numbers-differ tt (on-the-fall (rounded-by nearest-toward-zero) d)
+
+-- a half away from zero: −1
+abbrev pub away-from-zero : (n d : ℤ) → ℤ
+away-from-zero n d = withSign n (nearestOf (magnitude n) d)
+
+pub a-half-away-from-zero : Demand2 (answering (valued-by (rounded-by away-from-zero))) → ⊥
+a-half-away-from-zero d = numbers-differ tt (half-a-fall (rounded-by away-from-zero) d)
+
+-- the same of the whole value, and not of what it has risen by: −1
+abbrev pub whole-away-from-zero : (left h z m n t : ℤ) → ℤ
+whole-away-from-zero left h z m n t = away-from-zero (left *ℤ denominator unit h +ℤ numerator unit h z m n t) (denominator unit h)
+
+pub a-whole-value-away-from-zero : Demand2 (answering (valued-by whole-away-from-zero)) → ⊥
+a-whole-value-away-from-zero d = numbers-differ tt (half-below-0 whole-away-from-zero d)
+
+-- a half down: 0
+abbrev pub half-down : (n d : ℤ) → ℤ
+half-down n d = negℤ (nearestOf (negℤ n) d)
+
+pub a-half-down : Demand2 (answering (valued-by (rounded-by half-down))) → ⊥
+a-half-down d = numbers-differ tt (half-a-rise (rounded-by half-down) d)
+
+-- a half to the even number: one less than a half up where it is a half and that one is odd: 0
+abbrev pub half-to-even : (n d : ℤ) → ℤ
+half-to-even n d = nearestOf n d -ℤ (nearestOf n d -ℤ half-down n d) *ℤ (nearestOf n d -ℤ pos 2 *ℤ floorOf (nearestOf n d) (pos 2))
+
+pub a-half-to-even : Demand2 (answering (valued-by (rounded-by half-to-even))) → ⊥
+a-half-to-even d = numbers-differ tt (half-a-rise (rounded-by half-to-even) d)
+
+-- a fall as the mirror of the rise: −1
+abbrev pub as-a-rise : (h z m n t : ℤ) → ℤ
+as-a-rise h z m n t = withSign z (risen unit h (magnitude z) (magnitude m) (magnitude n) t)
+
+pub a-fall-as-the-mirror-of-the-rise : Demand2 (answering (valued-by (plus as-a-rise))) → ⊥
+a-fall-as-the-mirror-of-the-rise d = numbers-differ tt (half-a-fall (plus as-a-rise) d)
+
+-- the two slopes exchanged: (0,0), (4,4), (8,400) have 1 at position 1, and not 2
 abbrev pub mirrored : (h z m n t : ℤ) → ℤ
 mirrored h z m n t = risen unit h z n m t
 
--- "an evaluation that answers the left value (demand 2)"
-pub an-evaluation-that-answers-the-left-value : Demand2 (answering (rising-by nothing-more)) → ⊥
-an-evaluation-that-answers-the-left-value d = numbers-differ tt (the-same nothing-more d two-within (two-built (two .slopes) refl) at-1 minus-four)
-
--- "Dividing toward zero on a falling piece, which gives −3 in place of −4."
-pub division-toward-zero-on-a-fall : Demand2 (answering (rising-by toward-zero)) → ⊥
-division-toward-zero-on-a-fall d = numbers-differ tt (the-same toward-zero d two-within (two-built (two .slopes) refl) at-1 minus-four)
-
--- the two slopes exchanged: (0,0), (4,4), (8,40) have 0 at position 1, and not 1
-pub a-mirrored-cubic : Demand2 (answering (rising-by mirrored)) → ⊥
-a-mirrored-cubic d = numbers-differ tt (the-same mirrored d steep-within steep-built at-its-1 (has-value {before = ss} (within tt tt) at-its-1 refl steep-built))
+pub a-mirrored-cubic : Demand2 (answering (valued-by (plus mirrored))) → ⊥
+a-mirrored-cubic d = numbers-differ tt (the-same (plus mirrored) d steep-within at-its-1 (has-value {before = ss} (within tt tt) at-its-1 refl steep-built))
   where
     ks : List ℤ
     ks = pos 0 ∷ pos 4 ∷ pos 8 ∷ []
 
     vs : List ℤ
-    vs = pos 0 ∷ pos 4 ∷ pos 40 ∷ []
+    vs = pos 0 ∷ pos 4 ∷ pos 400 ∷ []
 
     ss : List ℤ
-    ss = pos 256 ∷ pos 460 ∷ pos 2304 ∷ []
+    ss = pos 256 ∷ pos 506 ∷ pos 25344 ∷ []
 
     steep-within : PointsWithin ks vs
     steep-within = points-by-test _ _ refl (count tt tt) tt

@@ -7,17 +7,20 @@ use mathlib.Core.Logic.{_⊎_, inl, inr}
 use Prim.Native.Nat.{ℕ}
 use native.Mathlib.Omega.{arith}
 use lib.IntN.{ℤ, pos, negsuc}
+use lib.Signed.{leZ-yes, ltZ-yes}
 use Rattle.integers.specs.Decided.{told, denied}
 use Rattle.demands.specs.Refuting.{within, numbers-differ}
 use Rattle.integers.proofs.difference.Reads as integers·difference
 use Rattle.integers.proofs.between.Reads as integers·between
 use Rattle.integers.proofs.floor_div.Reads as integers·floor_div
+use Rattle.integers.proofs.nearest_div.Reads as integers·nearest_div
 use Rattle.rules.proofs.count_within.Reads as rules·count_within
 use Rattle.rules.proofs.width_within.Reads as rules·width_within
 use Rattle.rules.proofs.rise_within.Reads as rules·rise_within
 use Rattle.exports.proofs.negwafir_difference.Reads as exports·negwafir_difference
 use Rattle.exports.proofs.negwafir_between.Reads as exports·negwafir_between
 use Rattle.exports.proofs.negwafir_floor_div.Reads as exports·negwafir_floor_div
+use Rattle.exports.proofs.negwafir_nearest_div.Reads as exports·negwafir_nearest_div
 use Rattle.exports.proofs.negwafir_count_within.Reads as exports·negwafir_count_within
 use Rattle.exports.proofs.negwafir_width_within.Reads as exports·negwafir_width_within
 use Rattle.exports.proofs.negwafir_rise_within.Reads as exports·negwafir_rise_within
@@ -89,6 +92,55 @@ divided-by-a-negative p = numbers-differ tt (either p .is)
 -- and 7 by 0 is not 7
 pub dividend-over-zero : floor-div (pos 7) (pos 0) (pos 7) → ⊥
 dividend-over-zero p = numbers-differ tt (either p .is)
+
+-- ---- integers::nearest_div
+
+abbrev nearest-div : ℤ → ℤ → (r : ℤ) → Type 0
+nearest-div n d r = integers·nearest_div.Post tt (n, (d, tt)) r (n, (d, tt)) ⊎ exports·negwafir_nearest_div.Post tt (n, (d, tt)) r (n, (d, tt))
+
+-- 7 divided by 4 is 2 to the nearest, and not 1
+pub nearest-rounded-down : nearest-div (pos 7) (pos 4) (pos 1) → ⊥
+nearest-rounded-down p = either p .nearest (ltZ-yes tt) .below .lt
+
+-- −7 divided by 4 is −2, and not −1; and −1 by 1 is −1, and not 0, as division toward zero has it of −2 + 1 by 2
+pub nearest-rounded-toward-zero : nearest-div (negsuc 6) (pos 4) (negsuc 0) → ⊥
+nearest-rounded-toward-zero p = either p .nearest (ltZ-yes tt) .above .le
+
+pub nearest-by-division-toward-zero : nearest-div (negsuc 0) (pos 1) (pos 0) → ⊥
+nearest-by-division-toward-zero p = either p .nearest (ltZ-yes tt) .above .le
+
+-- −1 divided by 2 is 0, and not −1, as a half away from zero has it, or a fall as the mirror of a rise
+pub a-half-away-from-zero : nearest-div (negsuc 0) (pos 2) (negsuc 0) → ⊥
+a-half-away-from-zero p = either p .nearest (ltZ-yes tt) .below .lt
+
+-- 1 divided by 2 is 1, and not 0, as a half down has it, or to the even number
+pub a-half-down : nearest-div (pos 1) (pos 2) (pos 0) → ⊥
+a-half-down p = either p .nearest (ltZ-yes tt) .below .lt
+
+-- 0 divided by 1 is 0, and not 1, as it is with a half of 1 rounded up; and 1 divided by 3 is 0
+pub an-odd-half-rounded-up : nearest-div (pos 0) (pos 1) (pos 1) → ⊥
+an-odd-half-rounded-up p = either p .nearest (ltZ-yes tt) .above .le
+
+pub a-third-rounded-up : nearest-div (pos 1) (pos 3) (pos 1) → ⊥
+a-third-rounded-up p = either p .nearest (ltZ-yes tt) .above .le
+
+-- 2^63 − 1 divided by itself is 1, and not −1, as a sum that wraps has it; nor 0, without the 1 that is put on where d is taken off
+pub a-sum-that-wraps : nearest-div (pos 9223372036854775807) (pos 9223372036854775807) (negsuc 0) → ⊥
+a-sum-that-wraps p = either p .nearest (ltZ-yes tt) .below .lt
+
+pub nothing-put-on : nearest-div (pos 9223372036854775807) (pos 9223372036854775807) (pos 0) → ⊥
+nothing-put-on p = either p .nearest (ltZ-yes tt) .below .lt
+
+-- 7 divided by 2 is 4, and 2 divided by 7 is 0
+pub nearest-divisor-for-dividend : nearest-div (pos 7) (pos 2) (pos 0) → ⊥
+nearest-divisor-for-dividend p = either p .nearest (ltZ-yes tt) .below .lt
+
+-- by a divisor below 1 the answer is 0: 7 by −2 is not −3, which is −3.5 with a half going up, and 7 by 0 is not 7
+pub nearest-by-a-negative : nearest-div (pos 7) (negsuc 1) (negsuc 2) → ⊥
+nearest-by-a-negative p = numbers-differ tt (either p .otherwise (leZ-yes tt))
+
+pub nearest-over-zero : nearest-div (pos 7) (pos 0) (pos 7) → ⊥
+nearest-over-zero p = numbers-differ tt (either p .otherwise (leZ-yes tt))
 
 -- ---- rules::count_within
 

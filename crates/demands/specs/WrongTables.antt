@@ -305,9 +305,12 @@ its-value : {t : Table} {x v : ℤ} {place i : ℕ} → Evaluated t x 0 place v 
 its-value {t} {x} e b =
     let v = answer-right refl (e .value) in v .is ∙ ap (λ (i : ℕ). valueOn t i x) (one-piece (accepted-at refl (e .refusal) .limits) (v .belongs) b)
 
--- 2Z for 3Z in the square's coefficient, or 3Z for 2Z in the cube's: 0, and not 1
-pub another-cubic : Evaluates (table 0-2 0-2 (pos 256 ∷ pos 256 ∷ [])) (pos 1) 0 0 (pos 0) → ⊥
-another-cubic p = numbers-differ tt (its-value p (in-piece 0 tt tt tt))
+-- 2Z for 3Z in the square's coefficient: 2, and not 4; and 3Z for 2Z in the cube's: 3
+pub another-square : Evaluates (table 0-2 (pos 0 ∷ pos 8 ∷ []) (pos 1024 ∷ pos 1024 ∷ [])) (pos 1) 0 0 (pos 2) → ⊥
+another-square p = numbers-differ tt (its-value p (in-piece 0 tt tt tt))
+
+pub another-cube : Evaluates (table 0-2 (pos 0 ∷ pos 8 ∷ []) (pos 1024 ∷ pos 1024 ∷ [])) (pos 1) 0 0 (pos 3) → ⊥
+another-cube p = numbers-differ tt (its-value p (in-piece 0 tt tt tt))
 
 -- 256·3·h² below: 1, and not 2
 pub another-denominator : Evaluates (table 0-2 (pos 0 ∷ pos 4 ∷ []) (pos 512 ∷ pos 512 ∷ [])) (pos 1) 0 0 (pos 1) → ⊥
@@ -317,11 +320,11 @@ another-denominator p = numbers-differ tt (its-value p (in-piece 0 tt tt tt))
 pub another-step-of-the-value : Evaluates (table (pos 0 ∷ pos 3 ∷ []) (pos 0 ∷ pos 8 ∷ []) 0-0) (pos 1) 0 0 (pos 0) → ⊥
 another-step-of-the-value p = numbers-differ tt (its-value p (in-piece 0 tt tt tt))
 
--- the place counted from the left value: −7, and not −4
+-- the place counted from the left value: −7, and not −3
 pub a-value-at-another-place : Evaluates (table (pos 1 ∷ pos 4 ∷ []) (pos 0 ∷ negsuc 9 ∷ []) (negsuc 852 ∷ negsuc 852 ∷ [])) (pos 2) 0 0 (negsuc 6) → ⊥
 a-value-at-another-place p = numbers-differ tt (its-value p (in-piece 0 tt tt tt))
 
--- 2, and not 0
+-- 2, and not 1, which is a half gone up
 pub a-value-with-the-left-slope-twice : Evaluates (table 0-2 (pos 0 ∷ pos 4 ∷ []) (pos 0 ∷ pos 1536 ∷ [])) (pos 1) 0 0 (pos 2) → ⊥
 a-value-with-the-left-slope-twice p = numbers-differ tt (its-value p (in-piece 0 tt tt tt))
 

@@ -15,6 +15,7 @@ pub use numbers::negwafir_between;
 pub use numbers::negwafir_count_within;
 pub use numbers::negwafir_difference;
 pub use numbers::negwafir_floor_div;
+pub use numbers::negwafir_nearest_div;
 pub use numbers::negwafir_rise_within;
 pub use numbers::negwafir_width_within;
 pub use tables::negwafir_build;

@@ -1,7 +1,7 @@
 // Signed arithmetic and the limits.
 ghost use mathlib.Core.Path.{_≡_};
 ghost use lib.IntN.{_-ℤ_};
-ghost use Rattle.integers.specs.Promise.{Decided, Quotient, Between};
+ghost use Rattle.integers.specs.Promise.{Decided, Quotient, Rounded, Between};
 ghost use Rattle.rules.specs.Limits.{CountWithin, WidthWithin, RiseWithin};
 
 #[no_mangle]
@@ -23,6 +23,13 @@ pub extern "C" fn negwafir_floor_div(n: i64, d: i64) -> i64
     ensures { λ r. ⌜ Quotient n d r ⌝ }
 {
     integers::floor_div(n, d)
+}
+
+#[no_mangle]
+pub extern "C" fn negwafir_nearest_div(n: i64, d: i64) -> i64
+    ensures { λ r. ⌜ Rounded n d r ⌝ }
+{
+    integers::nearest_div(n, d)
 }
 
 #[no_mangle]
