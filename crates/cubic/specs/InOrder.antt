@@ -7,11 +7,11 @@ use lib.IntN.{ℤ, pos, negℤ, _*ℤ_}
 use lib.Signed.{_≤ℤ_, _<ℤ_, ≤ℤ-refl}
 use Rattle.integers.specs.Ring.{ring, quote}
 use Rattle.integers.specs.Linear.{lin, says}
-use Rattle.integers.specs.Order.{0<→1≤, positives}
+use Rattle.integers.specs.Order.{0<→1≤}
 use Rattle.integers.specs.Within.{Within}
-use Rattle.integers.specs.Rounding.{Rounding, rounding-nearest}
 use Rattle.cubic.specs.Piece.{riseAt, Monotone}
 use Rattle.cubic.specs.Value.{rounded, risen}
+use Rattle.cubic.specs.Rounded.{rounding, 0<-denominator}
 use Rattle.cubic.specs.Along.{Along, along-through, part-within}
 use Rattle.cubic.specs.Monotone.{level-numbers}
 use Rattle.cubic.specs.Rise.{in-order, turned-over, at-left, at-right}
@@ -43,12 +43,9 @@ module _ {U h z m n : ℤ} (o : Monotone U h z m n) where
 
 -- ---- rounded
 
-rounding : Rounding rounded
-rounding = rounding-nearest
-
 module _ {U h : ℤ} (U₀ : pos 0 <ℤ U) (h₀ : pos 0 <ℤ h) where
   below : pos 0 <ℤ (U *ℤ (h *ℤ h *ℤ h))
-  below = search positives
+  below = 0<-denominator U₀ h₀
 
   module _ (z m n : ℤ) where
     -- nothing at the left end, and the whole rise at the right one

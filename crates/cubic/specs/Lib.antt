@@ -8,6 +8,7 @@ pub mod Monotone
 pub mod Rise
 pub mod Horner
 pub mod Value
+pub mod Rounded
 pub mod Along
 pub mod InOrder
 pub mod Small

@@ -15,6 +15,6 @@ numerator U h z m n t = riseAt (U *ℤ z) (m *ℤ h) (n *ℤ h) t h
 abbrev pub denominator : (U h : ℤ) → ℤ
 denominator U h = U *ℤ (h *ℤ h *ℤ h)
 
--- what "the left value plus" adds: the quotient, rounded. As the left value is a whole number, the sum is "the exact value rounded" (`nearest-shift` in Nearest.antt of `integers`).
+-- what "the left value plus" adds: the quotient, rounded. As the left value is a whole number, the sum is "the exact value rounded" (`the-whole-rounded` in Rounded.antt).
 abbrev pub risen : (U h z m n t : ℤ) → ℤ
 risen U h z m n t = rounded (numerator U h z m n t) (denominator U h)

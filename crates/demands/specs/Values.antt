@@ -8,10 +8,11 @@ use lib.IntN.{ℤ, pos, negsuc, negℤ, _+ℤ_, _-ℤ_, _*ℤ_}
 use lib.Signed.{_≤ℤ_, _<ℤ_, ltZ-yes}
 use Rattle.integers.specs.Promise.{Nearest, magnitude}
 use Rattle.integers.specs.Linear.{lin, says}
-use Rattle.integers.specs.Order.{positives, 0≤-number, <ℤ→≤ℤ, ≤ℤ-antisym, ≤ℤ-or-<ℤ}
+use Rattle.integers.specs.Order.{0≤-number, <ℤ→≤ℤ, ≤ℤ-antisym, ≤ℤ-or-<ℤ}
 use Rattle.integers.specs.Nearest.{nearest-of, nearest-unique}
 use Rattle.cubic.specs.Piece.{unit}
 use Rattle.cubic.specs.Value.{numerator, denominator}
+use Rattle.cubic.specs.Rounded.{0<-denominator}
 use Rattle.rules.specs.Limits.{WidthWithin}
 use Rattle.rules.specs.Known.{0<-width}
 use Rattle.table.specs.Table.{Table, entry}
@@ -74,7 +75,7 @@ module _ (h z m n left t v : ℤ) where
 -- ---- and of a table whose points are within the limits
 
 positive : {h : ℤ} → WidthWithin h → pos 0 <ℤ denominator unit h
-positive {h} w = let u : pos 0 <ℤ unit = ltZ-yes tt in let h₀ = 0<-width w in search positives
+positive w = 0<-denominator {U = unit} (ltZ-yes tt) (0<-width w)
 
 pub the-value-is-exact : {t : Table} {x v : ℤ} → PointsWithin (t .knots) (t .values) → ValueAt t x v → ExactRounded t x v
 the-value-is-exact {t} {x} {v} p a =

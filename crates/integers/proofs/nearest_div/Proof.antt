@@ -69,10 +69,10 @@ add-floor-div c =
     let s = c .before .before in
     let h = half (c .before) in
     subst₂ (λ (x y : ℤ). SFits w64 (x +ℤ y)) (sym (toZ-ofZ (s .fits .n))) (sym (half-is (c .before)))
-    (fits _ (sum (s .args .n) (s .args .d) (quotZ (s .args .d) (pos 2)) (wide (s .fits .n)) (wide (s .fits .d)) (h .low) (h .twice) (passed (given s) (c .if2 .taken) (search tests depth 30 fits 9000) tt)))
+    (fits _ (sum _ (s .args .n) (s .args .d) (quotZ (s .args .d) (pos 2)) (leZ-yes tt) (wide (s .fits .n)) (wide (s .fits .d)) (h .low) (h .twice) (passed (given s) (c .if2 .taken) (search tests depth 30 fits 9000) tt)))
   where
-    sum : (n d e : ℤ) → Wide n → Wide d → pos 0 ≤ℤ e → (pos 2 *ℤ e) ≤ℤ d → n <ℤ pos 4611686018427387904 → Wide (n +ℤ e)
-    sum n d e = lin (n ∷ d ∷ e ∷ []) (search says depth 30 fits 9000) (omega arith)
+    sum : (room n d e : ℤ) → room ≤ℤ pos 4611686018427387905 → Wide n → Wide d → pos 0 ≤ℤ e → (pos 2 *ℤ e) ≤ℤ d → n <ℤ room → Wide (n +ℤ e)
+    sum room n d e = lin (room ∷ n ∷ d ∷ e ∷ []) (search says depth 30 fits 9000) (omega arith)
 
 floor-div-requires : tie.Need-floor-div-requires
 floor-div-requires c κs = search needs
@@ -90,19 +90,19 @@ rest-most : (c : tie.Else2) → let s = c .before .before .args in (pos 0 ≤ℤ
 rest-most c =
     let s = c .before .before in
     let h = half (c .before) in
-    so (s .args .n) (s .args .d) (quotZ (s .args .d) (pos 2)) (wide (s .fits .n)) (wide (s .fits .d)) (positive (c .before)) (h .twice) (h .most) (failed (given s) (c .if2 .left) (search tests depth 30 fits 9000) tt)
+    so _ (s .args .n) (s .args .d) (quotZ (s .args .d) (pos 2)) (leZ-yes tt) (wide (s .fits .n)) (wide (s .fits .d)) (positive (c .before)) (h .twice) (h .most) (failed (given s) (c .if2 .left) (search tests depth 30 fits 9000) tt)
   where
-    so : (n d e : ℤ) → Wide n → Wide d → pos 1 ≤ℤ d → (pos 2 *ℤ e) ≤ℤ d → d ≤ℤ (pos 2 *ℤ e +ℤ pos 1) → pos 4611686018427387904 ≤ℤ n → (pos 0 ≤ℤ (n -ℤ d +ℤ e)) × ((n -ℤ d +ℤ e) <ℤ pos 9223372036854775807)
-    so n d e = lin (n ∷ d ∷ e ∷ []) (search says depth 30 fits 9000) (omega arith)
+    so : (room n d e : ℤ) → pos 4611686018427387904 ≤ℤ room → Wide n → Wide d → pos 1 ≤ℤ d → (pos 2 *ℤ e) ≤ℤ d → d ≤ℤ (pos 2 *ℤ e +ℤ pos 1) → room ≤ℤ n → (pos 0 ≤ℤ (n -ℤ d +ℤ e)) × ((n -ℤ d +ℤ e) <ℤ pos 9223372036854775807)
+    so room n d e = lin (room ∷ n ∷ d ∷ e ∷ []) (search says depth 30 fits 9000) (omega arith)
 
 sub-floor-div : tie.Need-sub-floor-div
 sub-floor-div c =
     let s = c .before .before in
     subst₂ (λ (x y : ℤ). SFits w64 (x -ℤ y)) (sym (toZ-ofZ (s .fits .n))) (sym (toZ-ofZ (s .fits .d)))
-    (fits _ (difference (s .args .n) (s .args .d) (wide (s .fits .n)) (wide (s .fits .d)) (positive (c .before)) (failed (given s) (c .if2 .left) (search tests depth 30 fits 9000) tt)))
+    (fits _ (difference _ (s .args .n) (s .args .d) (leZ-yes tt) (wide (s .fits .n)) (wide (s .fits .d)) (positive (c .before)) (failed (given s) (c .if2 .left) (search tests depth 30 fits 9000) tt)))
   where
-    difference : (n d : ℤ) → Wide n → Wide d → pos 1 ≤ℤ d → pos 4611686018427387904 ≤ℤ n → Wide (n -ℤ d)
-    difference n d = lin (n ∷ d ∷ []) (search says depth 30 fits 9000) (omega arith)
+    difference : (room n d : ℤ) → pos 0 ≤ℤ room → Wide n → Wide d → pos 1 ≤ℤ d → room ≤ℤ n → Wide (n -ℤ d)
+    difference room n d = lin (room ∷ n ∷ d ∷ []) (search says depth 30 fits 9000) (omega arith)
 
 -- the difference, as the code has it
 difference-is : (c : tie.Else2) → let s = c .before .before .args in toZ w64 (ofZ w64 (toZ w64 (ofZ w64 (s .n)) -ℤ toZ w64 (ofZ w64 (s .d)))) ≡ s .n -ℤ s .d
