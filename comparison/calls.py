@@ -4,20 +4,28 @@
 Each line is a function, what it was given, and what it answers.
 """
 import re
-from itertools import accumulate, chain, cycle, islice
+from fractions import Fraction
+from itertools import accumulate, chain, cycle, islice, product
 
 from reference import (
-    build_refusal, check_refusal, drive_at, drive_refusal, evaluation_refusal, piece_at, value_at, words_of,
+    build_refusal, check_refusal, drive_at, drive_refusal, evaluation_refusal, nearest, piece_at, value_at, words_of,
 )
 
 KNOTS, VALUES, SLOPES = (0, 2, 5), (7, 9, 9), (256, 0, 0)
 BEND = (9, 7, 7)  # values with which the first piece bends
-LEAST = -(2**63)
+LEAST, MOST = -(2**63), 2**63 - 1
+
+
+# Around 0, 2^62, below which a sum with a half of any number fits, and the ends of 64 bits; and divisors, odd and even ones, and some that are not positive.
+NUMBERS = (*range(-3, 4), 7, *(sign * 2**62 + step for sign in (-1, 1) for step in (-2, -1, 0, 1)), LEAST, LEAST + 1, MOST - 1, MOST)
+DIVISORS = (1, 2, 3, 4, 5, MOST - 1, MOST, 0, -1, -2, LEAST)
 
 
 def quotients():
     for n, d in ((7, 1), (7, 0), (-7, 0), (7, -2), (-1, 4), (-9, 4), (LEAST, 1), (LEAST, -1)):
         yield f"floor_div {n} {d} {n // d if d > 0 else 0}"
+    for n, d in product(NUMBERS, DIVISORS):
+        yield f"nearest_div {n} {d} {nearest(Fraction(n, d)) if d > 0 else 0}"
 
 
 def found(text, start, byte):

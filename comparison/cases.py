@@ -28,6 +28,8 @@ GROUPS = (
     # behind all that was there, so that no stored line of it gets another number
     ("The drive at each knot and beside it, of tables of 2 to 1024 points.", drives.each_knot),
     ("A width that is too large, at and away from the changed point.", changes.too_wide_elsewhere),
+    ("Values just at, above and below a half.", evaluations.halves),
+    ("Values near a half that floats would get wrong.", evaluations.halves_past_floats),
 )
 
 

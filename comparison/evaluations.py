@@ -151,6 +151,46 @@ def rounding():
                 yield from check_and_at(0)
 
 
+def halves():
+    """Inner positions where the value is a half, halfway along pieces with the same slope at both ends, from an even and an odd value on
+    either side of 0; or just above a half, or just below. Rising and falling."""
+    for width, rise in product((2, 6, WIDEST), (1, 3, 1025, LARGEST_RISE - 1)):
+        yield row(b"knots", (0, width))
+        for sign, value in product((1, -1), (-2, -1, 0, 1)):
+            slope = sign * (UNIT * rise // width)
+            yield from piece_as_table(value, sign * rise, slope, slope)
+            yield from check_and_at(width // 2)
+    dice = Dice(18)
+    wanted = {"above": 12, "below": 12}
+    while any(wanted.values()):
+        width, rise = 1 + dice.up_to_any_size(WIDEST - 1), dice.up_to_any_size(LARGEST_RISE)
+        steepest, t = 3 * UNIT * rise // width, dice.between(1, width - 1)
+        left, right = dice.between(0, steepest), dice.between(0, steepest)
+        over, under = quotient(width, rise, left, right, t)
+        _, where = rounded(2 * over + under, 2 * under)
+        if left != right and wanted.get(where):
+            wanted[where] -= 1
+            yield row(b"knots", (-t, width - t))
+            for sign in (1, -1):
+                yield from piece_as_table(dice.between(-9, 9), sign * rise, sign * left, sign * right)
+                yield from check_and_at(0)
+
+
+def halves_past_floats():
+    """Quotients so near below a half that 64-bit floats round them to it, so that they would go up, rising and then falling."""
+    for width, rise, left, right, t in (
+        (1018, 927894, 7232, 669331, 971),
+        (718, 725574, 31566, 378577, 649),
+        (934, 1043517, 603647, 614310, 421),
+        (1014, -859432, -59720, -462867, 527),
+        (726, -993259, -1227175, -300006, 635),
+        (774, -776725, -112596, -584543, 503),
+    ):
+        yield row(b"knots", (0, width))
+        yield from piece_as_table(0, rise, left, right)
+        yield from check_and_at(t - 1, t, t + 1)
+
+
 def past_floats():
     """Quotients so near below a whole number that 64-bit floats round them up to that one, rising and then falling."""
     for width, rise, left, right, t in (

@@ -176,9 +176,15 @@ def curve_at(knots, values, slopes, position):
     )
 
 
+def nearest(exact):
+    """The whole number nearest to a fraction, by its distance; of two that are as near the upper one, which is looked at first."""
+    below = math.floor(exact)
+    return min((below + 1, below), key=lambda whole: abs(whole - exact))
+
+
 def value_at(knots, values, slopes, position):
-    """The value where an evaluation is not refused: the curve's own, rounded down."""
-    return math.floor(curve_at(knots, values, slopes, position))
+    """The value where an evaluation is not refused: the whole number nearest to the curve's own, a half going up."""
+    return nearest(curve_at(knots, values, slopes, position))
 
 
 def drive_refusal(knots, values, slopes, position):

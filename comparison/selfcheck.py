@@ -117,23 +117,27 @@ TABLE_LINES = (
         b"ok 11\nok 11\nok 11\nrefused 3 at 9: a width is not in 1 to 1024\n",
     ),
     (b"knots 0 0 0\nbuild\nknots 0 1 2\nbuild", b"ok 3\nrefused 3 at 0: a width is not in 1 to 1024\nok 3\nok\n"),
-    # Tables that are accepted, and their values. The first is document 01's.
+    # Tables that are accepted, and their values. The first is document 01's, as request 6 amends it.
     (
         b"knots 0 3\nvalues 0 -10\nslopes 0 0\nbuild\ncheck\nat 0\nat 1\nat 2\nat 3",
-        b"ok 2\nok 2\nok 2\nok\nok\n0\n-4\n-7\n-10\n",
+        b"ok 2\nok 2\nok 2\nok\nok\n0\n-3\n-7\n-10\n",
     ),
     (b"check\nat 0\nat 1\nat 2\n" + SHOW_ALL, b"ok\n0\n1\n4\n0 1 2\n0 1 4\n7 8 9\n"),
     (
         b"knots 0 2 6\nvalues 10 0 -7\nslopes 0 0 0\ncheck\nat 0\nat 1\nat 2\nat 3\nat 4\nat 5\nat 6",
-        b"ok 3\nok 3\nok 3\nok\n10\n5\n0\n-2\n-4\n-6\n-7\n",
+        b"ok 3\nok 3\nok 3\nok\n10\n5\n0\n-1\n-3\n-6\n-7\n",
     ),
     (
         b"knots -4 0 4\nvalues -8 0 8\nslopes 512 512 512\ncheck\nat -3\nat -1\nat 0\nat 1\nat 3",
         b"ok 3\nok 3\nok 3\nok\n-6\n-2\n0\n2\n6\n",
     ),
-    (b"knots 0 4\nvalues 0 8\nslopes 1536 0\nat 1\nat 2\nat 3", b"ok 2\nok 2\nok 2\n4\n7\n7\n"),
+    (b"knots 0 4\nvalues 0 8\nslopes 1536 0\nat 1\nat 2\nat 3", b"ok 2\nok 2\nok 2\n5\n7\n8\n"),
     (b"knots 0 4\nvalues 0 8\nslopes 0 1536\nat 1\nat 2\nat 3", b"ok 2\nok 2\nok 2\n0\n1\n3\n"),
     (b"knots 0 4\nvalues 0 -8\nslopes -1536 0\nat 1\nat 2\nat 3", b"ok 2\nok 2\nok 2\n-5\n-7\n-8\n"),
+    # Halves go up: on a rise, on a fall, to an even number and to an odd one, and from below 0.
+    (b"knots 0 2\nvalues 0 1\nslopes 128 128\nat 1\nvalues 0 -1\nslopes -128 -128\nat 1", b"ok 2\nok 2\nok 2\n1\nok 2\nok 2\n0\n"),
+    (b"knots 0 2\nvalues 0 3\nslopes 384 384\nat 1\nvalues 0 -3\nslopes -384 -384\nat 1", b"ok 2\nok 2\nok 2\n2\nok 2\nok 2\n-1\n"),
+    (b"knots 0 2\nvalues -1 0\nslopes 128 128\nat 1\nvalues -1 -2\nslopes -128 -128\nat 1", b"ok 2\nok 2\nok 2\n0\nok 2\nok 2\n-1\n"),
     (b"values 5 5 5\nslopes 0 0 0\ncheck\nat 0\nat 1\nat 2", b"ok 3\nok 3\nok\n5\n5\n5\n"),
     (
         b"knots -2147483648 -2147483646\nvalues 2147483647 2147483645\nslopes -256 -256\n"
@@ -297,7 +301,7 @@ TABLE_LINES = (
     # Changes among other commands, each of which sees the lists as they are.
     (
         b"change 2 4 10\ncheck\nat 3\nchange 9 9 9\nbuild\nshow slopes\nchange 2 2 4\nshow slopes",
-        b"ok\nok\n6\nrefused 7 at 0: no point with this number\nok\n256 354 768\nok\n256 384 768\n",
+        b"ok\nok\n7\nrefused 7 at 0: no point with this number\nok\n256 354 768\nok\n256 384 768\n",
     ),
     # Faults of the line.
     (
@@ -518,9 +522,14 @@ def numerator_by_line(width, rise, left_slope, right_slope, t):
     return a * t * width**2 + (3 * Z - 2 * a - b) * t**2 * width + (a + b - 2 * Z) * t**3
 
 
+def half_up(over, under):
+    """A quotient rounded to the nearest whole number, a half going up, as one floor: request 6 without distances."""
+    return (2 * over + under) // (2 * under)
+
+
 def value_by_line(width, rise, left_slope, right_slope, t):
     """Document 01's line: how far the value at T is above the left value."""
-    return numerator_by_line(width, rise, left_slope, right_slope, t) // (UNIT * width**3)
+    return half_up(numerator_by_line(width, rise, left_slope, right_slope, t), UNIT * width**3)
 
 
 def monotone_pieces():
@@ -609,7 +618,7 @@ def drive_fault():
             wholes, floats = horner_steps(*piece, t), horner_steps(*map(float, piece), float(t))
             if wholes[-1] != numbers[1] or any(int(step) != whole for step, whole in zip(floats, wholes)):
                 return f"knots, values and slopes {table} have a step at {t - 5} that floats do not give exactly"
-            if numbers[0] + numbers[1] // numbers[2] != value_at(*table, t - 5):
+            if half_up(numbers[0] * numbers[2] + numbers[1], numbers[2]) != value_at(*table, t - 5):
                 return f"knots, values and slopes {table} have another value at {t - 5} than the drive's division gives"
     return None
 

@@ -21,6 +21,8 @@ from stored import ANSWERS, CALLS_ANSWERS, CASES, ROOT, read
 NOT_A_PROGRAM, TOLD, SURVIVES = "not a program", "told", "survives"
 NOT_LOWERED = "rattle-cases: the program is not lowered"
 GAVE_UP = "the run did not finish within"
+TOO_SLOW = "the program did not end within the time limit"
+EMULATED = os.uname().machine != "x86_64"
 PATIENCE = 60  # seconds, more than ten times what the right program takes
 
 
@@ -112,14 +114,21 @@ def by_the_interpreter(verdicts):
 
 
 def by_all(verdicts):
-    """All four verdicts. That the interpreter gave up, and had written nothing wrong, tells nothing."""
+    """All four verdicts. That a run was not at its end in time, and had written nothing wrong, tells nothing of the interpreter, nor of a
+    program that is slow for its own checks, or not optimised, where it is emulated. The optimised one has to come to its end."""
     interpreted, *native = verdicts
     if interpreted.startswith(NOT_LOWERED):
         return NOT_A_PROGRAM
-    gave_up = GAVE_UP in interpreted and 'found ""' in interpreted
-    is_well = interpreted.startswith("ok: the interpreter") or gave_up
-    well = [verdict for verdict in native if verdict.startswith("ok: the native program")]
-    return SURVIVES if is_well and len(well) == 3 else TOLD
+    well = interpreted.startswith("ok: the interpreter") or was_well_until(GAVE_UP, interpreted)
+    for verdict in native:
+        slow = EMULATED and " at -O3 " not in verdict and was_well_until(TOO_SLOW, verdict)
+        well = well and (verdict.startswith("ok: the native program") or slow)
+    return SURVIVES if well and len(native) == 3 else TOLD
+
+
+def was_well_until(reason, verdict):
+    """Whether a run was broken off for this reason, and all that it had written was right."""
+    return reason in verdict and 'found ""' in verdict
 
 
 class Rooms:

@@ -25,6 +25,7 @@ const BEND: [i32; 3] = [9, 7, 7];
 
 fn main() {
     quotients();
+    nearests();
     texts(b"abc", b"ab c");
     tables(&KNOTS, &VALUES, &SLOPES, &BEND);
     pieces();
@@ -45,6 +46,49 @@ fn quotients() {
 
 fn quotient(n: i64, d: i64) {
     wholes(b"floor_div # # #\n", n, d, integers::floor_div(n, d));
+}
+
+// Numbers around 0, 2^62 and the ends of 64 bits.
+fn nearests() {
+    by_each(-3);
+    by_each(-2);
+    by_each(-1);
+    by_each(0);
+    by_each(1);
+    by_each(2);
+    by_each(3);
+    by_each(7);
+    by_each(-4611686018427387906);
+    by_each(-4611686018427387905);
+    by_each(-4611686018427387904);
+    by_each(-4611686018427387903);
+    by_each(4611686018427387902);
+    by_each(4611686018427387903);
+    by_each(4611686018427387904);
+    by_each(4611686018427387905);
+    by_each(-9223372036854775808);
+    by_each(-9223372036854775807);
+    by_each(9223372036854775806);
+    by_each(9223372036854775807);
+}
+
+// By odd and even numbers, and by some that are not positive.
+fn by_each(n: i64) {
+    nearest(n, 1);
+    nearest(n, 2);
+    nearest(n, 3);
+    nearest(n, 4);
+    nearest(n, 5);
+    nearest(n, 9223372036854775806);
+    nearest(n, 9223372036854775807);
+    nearest(n, 0);
+    nearest(n, -1);
+    nearest(n, -2);
+    nearest(n, -9223372036854775808);
+}
+
+fn nearest(n: i64, d: i64) {
+    wholes(b"nearest_div # # #\n", n, d, integers::nearest_div(n, d));
 }
 
 // ---- words and decimals
