@@ -244,8 +244,9 @@ negwafir_value reference_evaluate(const int32_t *knots, size_t knots_length, con
     int64_t h = step(knots, i), rise = 256 * step(values, i), t = (int64_t)position - knots[i];
     int64_t a = slopes[i] * h, b = slopes[i + 1] * h;
     int64_t above = (((a + b - 2 * rise) * t + (3 * rise - 2 * a - b) * h) * t + a * (h * h)) * t;
-    int64_t below = 256 * (h * h * h);
-    int64_t risen = above / below - (above % below < 0);
+    int64_t cube = h * h * h, below = 256 * cube;
+    int64_t rounded = above + 128 * cube;
+    int64_t risen = rounded / below - (rounded % below < 0);
     return (negwafir_value){at.refusal, (int32_t)(values[i] + risen)};
 }
 

@@ -267,8 +267,9 @@ negwafir_refusal negwafir_change_point(int32_t *knots, size_t knots_length,
 /*
  * negwafir_evaluate
  *
- * PURPOSE    Says where the arm is at a count of the conveyor. The answer is the exact cubic rounded
- *            down; it lies between the values of the two points beside the position, and at a knot
+ * PURPOSE    Says where the arm is at a count of the conveyor. The answer is the exact value,
+ *            rounded to the nearest whole number, a half going up, for rising and falling pieces
+ *            alike; it lies between the values of the two points beside the position, and at a knot
  *            it is the value there. The whole table is checked first, in every call.
  * ARGUMENTS  knots, values, slopes  the table.
  *            position  a count, from the first knot to the last.
@@ -384,6 +385,21 @@ bool negwafir_between(int64_t low, int64_t x, int64_t high);
  * LISTS      it has none.
  */
 int64_t negwafir_floor_div(int64_t n, int64_t d);
+
+/*
+ * negwafir_nearest_div
+ *
+ * PURPOSE    Divides and rounds to the nearest whole number, a half going up, also where the quotient
+ *            is negative. So negwafir_evaluate rounds: its value is the left value of the float answer
+ *            plus this quotient of its numerator and denominator.
+ * ARGUMENTS  n  what is divided.
+ *            d  what it is divided by.
+ * ANSWER     the whole number nearest to n / d, and of two that are as near the upper one; 0 for a d
+ *            below 1.
+ * REFUSALS   none
+ * LISTS      it has none.
+ */
+int64_t negwafir_nearest_div(int64_t n, int64_t d);
 
 /*
  * negwafir_count_within

@@ -84,6 +84,8 @@ static void try_limits(int64_t x) {
 static void try_two(int64_t x, int64_t y) {
     calling("negwafir_floor_div of %" PRId64 ", %" PRId64, x, y);
     same_number("the quotient", negwafir_floor_div(x, y), y > 0 ? (int64_t)rounded_down(x, y) : 0);
+    calling("negwafir_nearest_div of %" PRId64 ", %" PRId64, x, y);
+    same_number("the nearest quotient", negwafir_nearest_div(x, y), y > 0 ? (int64_t)nearest(x, y) : 0);
     if (x == (int32_t)x && y == (int32_t)y) {
         calling("negwafir_difference of %" PRId64 ", %" PRId64, x, y);
         same_number("the difference", negwafir_difference((int32_t)x, (int32_t)y), y - x);

@@ -181,10 +181,11 @@ static void lend_piece(int32_t h, int32_t z, int32_t m, int32_t n) {
     put(&slopes, (int32_t[]){m, n});
 }
 
+/* Less than a half above 810401, and in doubles a half. */
 static void try_known_value(void) {
-    lend_piece(979, 707817, 185088, 185088);
-    try_at(158);
-    same_number("the value by rules.c", value_at(lists(), 158), 114234);
+    lend_piece(1018, 927894, 7232, 669331);
+    try_at(971);
+    same_number("the value by rules.c", value_at(lists(), 971), 810401);
 }
 
 static void try_known_bend(int32_t h, int32_t z, int32_t m, int32_t n) {

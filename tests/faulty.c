@@ -51,6 +51,28 @@ static bool is_well_inside(table t, int32_t position) {
     return t.knots[i + 1] - t.knots[i] > 8 && position > t.knots[i] + 1 && position < t.knots[i + 1] - 1;
 }
 
+/* ---- roundings that are not the one wanted */
+
+static wide toward_zero(wide n, wide d) {
+    return n / d;
+}
+
+static wide nearest_by_division_toward_zero(wide n, wide d) {
+    return (2 * n + d) / (2 * d);
+}
+
+static wide half_down(wide n, wide d) {
+    return -nearest(-n, d);
+}
+
+static wide half_away_from_zero(wide n, wide d) {
+    return n < 0 ? half_down(n, d) : nearest(n, d);
+}
+
+static wide half_to_even(wide n, wide d) {
+    return nearest(n, d) % 2 == 0 ? nearest(n, d) : half_down(n, d);
+}
+
 /* ---- tables */
 
 /* What the lists' lengths are in fewer bits. */
@@ -213,14 +235,39 @@ negwafir_place negwafir_locate(TABLE, int32_t position) {
 static int32_t straight(table t, int32_t position) {
     size_t i = piece_at(t, position);
     wide h = (wide)t.knots[i + 1] - t.knots[i], z = (wide)t.values[i + 1] - t.values[i];
-    return (int32_t)(t.values[i] + rounded_down(z * ((wide)position - t.knots[i]), h));
+    return (int32_t)(t.values[i] + nearest(z * ((wide)position - t.knots[i]), h));
 }
 
 static int32_t value_in_doubles(table t, int32_t position) {
     size_t i = piece_at(t, position);
     double h = t.knots[i + 1] - t.knots[i], z = t.values[i + 1] - t.values[i], x = (position - t.knots[i]) / h;
     double a = t.slopes[i] * h / 256, b = t.slopes[i + 1] * h / 256;
-    return t.values[i] + (int32_t)(((a + b - 2 * z) * x + (3 * z - 2 * a - b)) * x * x + a * x);
+    return t.values[i] + (int32_t)(((a + b - 2 * z) * x + (3 * z - 2 * a - b)) * x * x + a * x + 0.5);
+}
+
+/* The left value and the quotient, rounded in some way. */
+static int32_t value_by(wide round(wide n, wide d), table t, int32_t position) {
+    negwafir_told told = told_at(t, position);
+    return (int32_t)(t.values[piece_at(t, position)] + round((wide)told.numerator, (wide)told.denominator));
+}
+
+static int32_t value_by_another_rounding(table t, int32_t position) {
+    size_t i = piece_at(t, position);
+    if (fault("value_rounded_down"))
+        return value_by(rounded_down, t, position);
+    if (fault("value_rounded_toward_zero"))
+        return value_by(toward_zero, t, position);
+    if (fault("value_nearest_by_division_toward_zero"))
+        return value_by(nearest_by_division_toward_zero, t, position);
+    if (fault("value_half_away_from_zero"))
+        return value_by(half_away_from_zero, t, position);
+    if (fault("value_half_down"))
+        return value_by(half_down, t, position);
+    if (fault("value_half_to_even"))
+        return value_by(half_to_even, t, position);
+    if (fault("fall_as_the_mirror_of_the_rise") && t.values[i + 1] < t.values[i])
+        return value_by(half_down, t, position);
+    return value_at(t, position);
 }
 
 /* Values that are wrong well inside a piece, or at the ends of 32 bits, and nowhere else. */
@@ -235,7 +282,7 @@ static int32_t value_by_fault(table t, int32_t position) {
         return 0;
     if (fault("value_wrong_at_the_least_knot") && position == INT32_MIN)
         return 0;
-    return value_at(t, position);
+    return value_by_another_rounding(t, position);
 }
 
 negwafir_value negwafir_evaluate(TABLE, int32_t position) {
@@ -328,6 +375,30 @@ int64_t negwafir_floor_div(int64_t n, int64_t d) {
     if (fault("division_toward_zero") && d > 0)
         return n / d;
     return d > 0 ? (int64_t)rounded_down(n, d) : 0;
+}
+
+int64_t negwafir_nearest_div(int64_t n, int64_t d) {
+    if (d < 1)
+        return fault("nearest_by_minus_1") && d == -1 && n > 0 ? -n : 0;
+    if (fault("nearest_rounded_down"))
+        return (int64_t)rounded_down(n, d);
+    if (fault("nearest_toward_zero"))
+        return n / d;
+    if (fault("nearest_by_division_toward_zero"))
+        return (int64_t)nearest_by_division_toward_zero(n, d);
+    if (fault("half_away_from_zero"))
+        return (int64_t)half_away_from_zero(n, d);
+    if (fault("half_down"))
+        return (int64_t)half_down(n, d);
+    if (fault("half_to_even"))
+        return (int64_t)half_to_even(n, d);
+    if (fault("odd_half_rounded_up"))
+        return (int64_t)rounded_down((wide)n + (d - d / 2), d);
+    if (fault("sum_with_the_half_wraps"))
+        return (int64_t)rounded_down((int64_t)((uint64_t)n + (uint64_t)(d / 2)), d);
+    if (fault("one_too_few_from_2_62_on") && n >= INT64_C(4611686018427387904))
+        return (int64_t)nearest(n, d) - 1;
+    return (int64_t)nearest(n, d);
 }
 
 bool negwafir_count_within(size_t n) {

@@ -34,6 +34,11 @@ wide rounded_down(wide n, wide d) {
     return q * d > n ? q - 1 : q;
 }
 
+wide nearest(wide n, wide d) {
+    wide below = rounded_down(n, d), above = below + 1;
+    return above * d - n <= n - below * d ? above : below;
+}
+
 /* ---- refusals */
 
 static negwafir_refusal length_refusal(table t) {
@@ -169,7 +174,7 @@ static wide curve_on(table t, size_t i, int32_t position) {
 
 int32_t value_at(table t, int32_t position) {
     size_t i = piece_at(t, position);
-    return (int32_t)rounded_down(curve_on(t, i, position), denominator_on(t, i));
+    return (int32_t)nearest(curve_on(t, i, position), denominator_on(t, i));
 }
 
 negwafir_told told_at(table t, int32_t position) {

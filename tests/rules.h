@@ -35,6 +35,9 @@ bool is_rise(wide z);
 /* The largest whole number that is not above n / d, for a d above 0. */
 wide rounded_down(wide n, wide d);
 
+/* The whole number nearest to n / d, and of two that are as near the upper one, for a d above 0. */
+wide nearest(wide n, wide d);
+
 bool is_separator(uint8_t byte);
 negwafir_span word_from(const uint8_t *line, size_t length, size_t from);
 negwafir_read number_in(const uint8_t *text, size_t length, wide least, wide most);

@@ -41,6 +41,7 @@ static tried functions[] = {
     {"negwafir_difference", 1622, 0},
     {"negwafir_between", 42187, 0},
     {"negwafir_floor_div", 4702, 0},
+    {"negwafir_nearest_div", 4702, 0},
     {"negwafir_count_within", 4555, 0},
     {"negwafir_width_within", 4555, 0},
     {"negwafir_rise_within", 4555, 0},
