@@ -1,9 +1,11 @@
--- "Figures to hold against it" of the exact rules, as far as they speak of values: the definitions that `evaluate` promises give them.
-use mathlib.Core.Path.{refl}
+-- "Figures to hold against it" of the exact rules, as far as they speak of values and as request 6 amends them, and halves: the definitions that `evaluate` promises give them.
+use mathlib.Core.Path.{_≡_, refl}
 use mathlib.Core.List.{[], _∷_}
 use native.Mathlib.Omega.{arith}
 use lib.IntN.{pos, negsuc}
 use lib.Signed.{leZ-yes, ltZ-yes}
+use Rattle.cubic.specs.Piece.{unit}
+use Rattle.cubic.specs.Value.{risen}
 use Rattle.table.specs.Table.{Table, table}
 use Rattle.position.specs.Position.{inside, at-last-knot}
 use Rattle.curve.specs.Curve.{ValueAt}
@@ -25,3 +27,13 @@ sampled =
       at-2 = record { piece = 0; belongs = inside {i = 0} (omega arith) (leZ-yes tt) (ltZ-yes tt); is = refl };
       at-3 = record { piece = 0; belongs = at-last-knot {i = 0} refl refl; is = refl };
     }
+
+-- "a half going up, for rising and falling alike": a rise of 1 or 3 in two counts, and a fall, at the count between
+pub record Halves : Type 0 where
+  pub rising-by-1 : risen unit (pos 2) (pos 1) (pos 128) (pos 128) (pos 1) ≡ pos 1
+  pub falling-by-1 : risen unit (pos 2) (negsuc 0) (negsuc 127) (negsuc 127) (pos 1) ≡ pos 0
+  pub rising-by-3 : risen unit (pos 2) (pos 3) (pos 384) (pos 384) (pos 1) ≡ pos 2
+  pub falling-by-3 : risen unit (pos 2) (negsuc 2) (negsuc 383) (negsuc 383) (pos 1) ≡ negsuc 0
+
+pub halves : Halves
+halves = record { rising-by-1 = refl; falling-by-1 = refl; rising-by-3 = refl; falling-by-3 = refl }
