@@ -245,8 +245,8 @@ negwafir_value reference_evaluate(const int32_t *knots, size_t knots_length, con
     int64_t a = slopes[i] * h, b = slopes[i + 1] * h;
     int64_t above = (((a + b - 2 * rise) * t + (3 * rise - 2 * a - b) * h) * t + a * (h * h)) * t;
     int64_t cube = h * h * h, below = 256 * cube;
-    int64_t rounded = above + 128 * cube;
-    int64_t risen = rounded / below - (rounded % below < 0);
+    int64_t with_half = above + 128 * cube;
+    int64_t risen = with_half / below - (with_half % below < 0);
     return (negwafir_value){at.refusal, (int32_t)(values[i] + risen)};
 }
 

@@ -29,7 +29,7 @@ GROUPS = (
     ("The drive at each knot and beside it, of tables of 2 to 1024 points.", drives.each_knot),
     ("A width that is too large, at and away from the changed point.", changes.too_wide_elsewhere),
     ("Values just at, above and below a half.", evaluations.halves),
-    ("Values near a half that floats would get wrong.", evaluations.halves_past_floats),
+    ("Values so near a half that floats take them for it.", evaluations.halves_past_floats),
 )
 
 

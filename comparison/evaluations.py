@@ -177,7 +177,7 @@ def halves():
 
 
 def halves_past_floats():
-    """Quotients so near below a half that 64-bit floats round them to it, so that they would go up, rising and then falling."""
+    """Quotients so near below a half that 64-bit floats take them for it, so that they would go up, rising and then falling."""
     for width, rise, left, right, t in (
         (1018, 927894, 7232, 669331, 971),
         (718, 725574, 31566, 378577, 649),
@@ -192,7 +192,7 @@ def halves_past_floats():
 
 
 def past_floats():
-    """Quotients so near below a whole number that 64-bit floats round them up to that one, rising and then falling."""
+    """Quotients so near below a whole number that 64-bit floats take them for it, rising and then falling: rounded down or up, they would be another."""
     for width, rise, left, right, t in (
         (805, 1036744, 61365, 539023, 674),
         (721, 722811, 461213, 460402, 318),
@@ -462,7 +462,7 @@ GROUPS = (
     ("Positions in the largest pieces.", largest_pieces),
     ("Positions and values at the ends of 32 bits.", ends_of_32_bits),
     ("Values just at, above and below a whole number.", rounding),
-    ("Values that floats would get wrong.", past_floats),
+    ("Values so near a whole number that floats take them for it.", past_floats),
     ("Slopes at the border of what is accepted.", border),
     ("The steepest slopes.", steepest),
     ("One piece at the border and past it, at each place.", past_the_border),

@@ -390,8 +390,8 @@ int64_t negwafir_floor_div(int64_t n, int64_t d);
  * negwafir_nearest_div
  *
  * PURPOSE    Divides and rounds to the nearest whole number, a half going up, also where the quotient
- *            is negative. So negwafir_evaluate rounds: its value is the left value of the float answer
- *            plus this quotient of its numerator and denominator.
+ *            is negative. So negwafir_evaluate rounds: where there is a float answer, the value is its
+ *            left value plus this quotient of its numerator and denominator.
  * ARGUMENTS  n  what is divided.
  *            d  what it is divided by.
  * ANSWER     the whole number nearest to n / d, and of two that are as near the upper one; 0 for a d

@@ -247,8 +247,9 @@ static int32_t value_in_doubles(table t, int32_t position) {
 
 /* The left value and the quotient, rounded in some way. */
 static int32_t value_by(wide round(wide n, wide d), table t, int32_t position) {
-    negwafir_told told = told_at(t, position);
-    return (int32_t)(t.values[piece_at(t, position)] + round((wide)told.numerator, (wide)told.denominator));
+    size_t i = piece_at(t, position);
+    wide below = denominator_on(t, i), above = curve_on(t, i, position) - t.values[i] * below;
+    return (int32_t)(t.values[i] + round(above, below));
 }
 
 static int32_t value_by_another_rounding(table t, int32_t position) {

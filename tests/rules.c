@@ -160,13 +160,12 @@ size_t piece_at(table t, int32_t position) {
     return i;
 }
 
-static wide denominator_on(table t, size_t i) {
+wide denominator_on(table t, size_t i) {
     wide h = step(t.knots, i);
     return UNIT * h * h * h;
 }
 
-/* The curve at the position, times its denominator. */
-static wide curve_on(table t, size_t i, int32_t position) {
+wide curve_on(table t, size_t i, int32_t position) {
     wide h = step(t.knots, i), x = (wide)position - t.knots[i], rest = h - x;
     return UNIT * t.values[i] * (h + 2 * x) * rest * rest + UNIT * t.values[i + 1] * (3 * h - 2 * x) * x * x
         + (wide)t.slopes[i] * h * x * rest * rest - (wide)t.slopes[i + 1] * h * rest * x * x;

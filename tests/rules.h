@@ -28,6 +28,10 @@ negwafir_told told_at(table t, int32_t position);
 int32_t slope_at(const int32_t *knots, const int32_t *values, size_t points, size_t point);
 uint32_t verdict_of(wide h, wide z, wide m, wide n);
 
+/* The curve at a position of piece i, times its denominator, which is 256 times the width cubed. */
+wide curve_on(table t, size_t i, int32_t position);
+wide denominator_on(table t, size_t i);
+
 bool is_count(size_t n);
 bool is_width(wide h);
 bool is_rise(wide z);

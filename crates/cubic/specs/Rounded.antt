@@ -1,4 +1,4 @@
--- All that is known of the rounding of values: it is one, and a whole number may be added before or after it. And what they are divided by is positive.
+-- What the theorems on values know of their rounding: it is one, and a whole number may be added before or after it. And what they are divided by is positive.
 use mathlib.Core.Path.{_≡_}
 use lib.IntN.{ℤ, pos, _+ℤ_, _*ℤ_}
 use lib.Signed.{_<ℤ_}

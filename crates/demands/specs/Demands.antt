@@ -1,4 +1,4 @@
--- The user's three demands, word for word, as the requests of document 02 that are met amend them (6), as predicates of any implementation, and what document 01 says of answers beside them.
+-- The user's three demands, word for word, as request 6 of document 02 amends them, as predicates of any implementation, and what document 01 says of answers beside them.
 -- This file has no proof: it can be read from top to bottom. `Met.antt` shows that ours meets them, as Rattle functions and as the library for C; `NothingElse.antt` that whatever meets them answers as ours does; and
 -- `Wrong1.antt`, `Wrong2.antt`, `Wrong3.antt` and `Wrong01.antt` of wrong programs that they do not.
 --

@@ -1,4 +1,4 @@
--- "The sixteen cases marked P are proved together as a single list with a single statement": what an implementation answers in each. This file has no proof;
+-- "The sixteen cases marked P are proved together as a single list with a single statement": what an implementation answers in each. The last is as request 6 of document 02 amends it. This file has no proof;
 -- `SixteenGiven.antt` shows that ours gives them. `Demands.antt` says how to read it.
 use mathlib.Core.Path.{_≡_}
 use mathlib.Core.List.{List, [], _∷_}

@@ -51,11 +51,11 @@ from-size (negsuc n) {d} h l f = (at-most-it (pos (suc n)) d h (0≤-number (suc
 minus : (x y : ℤ) → negℤ (pos 2 *ℤ (x -ℤ y)) ≡ pos 2 *ℤ (y -ℤ x)
 minus x y = lin (x ∷ y ∷ []) (search says depth 30 fits 9000) (omega arith)
 
-half : (x : ℤ) → pos 0 <ℤ (pos 2 *ℤ x) → pos 0 <ℤ x
-half x = lin (x ∷ []) (search says depth 30 fits 9000) (omega arith)
+so-once : (x : ℤ) → pos 0 <ℤ (pos 2 *ℤ x) → pos 0 <ℤ x
+so-once x = lin (x ∷ []) (search says depth 30 fits 9000) (omega arith)
 
-whole : (x : ℤ) → pos 0 <ℤ x → pos 0 <ℤ (pos 2 *ℤ x)
-whole x = lin (x ∷ []) (search says depth 30 fits 9000) (omega arith)
+so-twice : (x : ℤ) → pos 0 <ℤ x → pos 0 <ℤ (pos 2 *ℤ x)
+so-twice x = lin (x ∷ []) (search says depth 30 fits 9000) (omega arith)
 
 module _ (h z m n left t v : ℤ) where
   to-exact : Nearest (numerator unit h z m n t) (denominator unit h) (v -ℤ left) → NearestToExact h z m n left t v
@@ -63,13 +63,13 @@ module _ (h z m n left t v : ℤ) where
       let x = (v -ℤ left) *ℤ denominator unit h in
       let y = numerator unit h z m n t in
       let s = to-size (pos 2 *ℤ (x -ℤ y)) (e .above) (subst (λ (w : ℤ). w <ℤ denominator unit h) (sym (minus x y)) (e .below)) in
-      record { at-most-a-half-away = s .0; a-half-goes-up = λ g. half (x -ℤ y) (s .1 g) }
+      record { at-most-a-half-away = s .0; a-half-goes-up = λ g. so-once (x -ℤ y) (s .1 g) }
 
   from-exact : pos 0 <ℤ denominator unit h → NearestToExact h z m n left t v → Nearest (numerator unit h z m n t) (denominator unit h) (v -ℤ left)
   from-exact d₀ e =
       let x = (v -ℤ left) *ℤ denominator unit h in
       let y = numerator unit h z m n t in
-      let s = from-size (pos 2 *ℤ (x -ℤ y)) d₀ (e .at-most-a-half-away) (λ g. whole (x -ℤ y) (e .a-half-goes-up g)) in
+      let s = from-size (pos 2 *ℤ (x -ℤ y)) d₀ (e .at-most-a-half-away) (λ g. so-twice (x -ℤ y) (e .a-half-goes-up g)) in
       record { above = s .0; below = subst (λ (w : ℤ). w <ℤ denominator unit h) (minus x y) (s .1) }
 
 -- ---- and of a table whose points are within the limits

@@ -1,4 +1,4 @@
--- "The drive does the division": what it is told is the value that evaluation answers.
+-- "The drive does the division": what it is told, divided and rounded, is the value that evaluation answers.
 use mathlib.Core.Path.{_≡_, sym, _∙_, ap, subst}
 use Prim.Native.Nat.{ℕ}
 use lib.IntN.{ℤ, _+ℤ_, _*ℤ_, +ℤ-idr}

@@ -3,7 +3,7 @@ ghost use mathlib.Core.Path.{_≡_};
 ghost use lib.IntN.{_-ℤ_};
 ghost use Rattle.integers.specs.Promise.{Decided, Quotient, Rounded, Between};
 
-// 2^62: below it is a half of every number, and below it two numbers have a sum that fits.
+// 2^62: the half of any number lies below it, and the sum of such a half and a number below it fits.
 const ROOM: i64 = 4611686018427387904;
 
 // The difference of any two 32-bit numbers, right minus left. It is taken in 64 bits, where it always fits.
@@ -38,8 +38,8 @@ pub fn floor_div(n: i64, d: i64) -> i64
     q
 }
 
-// n/d rounded to the nearest whole number, a half going up, where d is positive, and 0 where it is not: a half of d is added, and the quotient is rounded down. That
-// half may be rounded down where d is odd, for 2n + d is odd then too. Where the sum might not fit, d is taken off it first, and 1 put on the quotient.
+// n/d rounded to the nearest whole number, a half going up, where d is positive, and 0 where it is not: a half of d is added, and the quotient is rounded down. Where d is odd no
+// n/d lies halfway between two whole numbers, so that its half may be rounded down too. Where the sum might not fit, d is taken off n first, and 1 put on the quotient.
 pub fn nearest_div(n: i64, d: i64) -> i64
     ensures { λ r. ⌜ Rounded n d r ⌝ }
 {
