@@ -1,4 +1,4 @@
--- "The value at a position" of the exact rules, as request 6 amends them, for a whole table. Whoever believes the promise of `evaluate` believes this file and what it cites: the
+-- "The value at a position" of the exact rules, for a whole table. Whoever believes the promise of `evaluate` believes this file and what it cites: the
 -- cubic and its rounding, a table and its causes, which piece a position belongs to, and the refusals.
 use mathlib.Core.Path.{_≡_}
 use Prim.Native.Nat.{ℕ, _+_}

@@ -231,8 +231,8 @@ module _ (h z m n : ℤ) where
   abbrev pub lessExact : (left t v : ℤ) → ℤ
   lessExact left t v = (v -ℤ left) *ℤ (unit *ℤ (h *ℤ h *ℤ h)) -ℤ riseAt (unit *ℤ z) (m *ℤ h) (n *ℤ h) t h
 
-  -- "rounded to the nearest whole number, a half going up, for rising and falling alike": |2·(v − exact)| is at most 1, and where it is 1 the whole number above the exact value is v. Nothing
-  -- is said of the rise.
+  -- "rounded to the nearest whole number, a half going up, for rising and falling alike": |2·(v − exact)| is at most 1, and where it is 1 v lies above the exact value. Nothing is
+  -- asked of the rise.
   pub record NearestToExact (left t v : ℤ) : Type 0 where
     pub at-most-a-half-away : magnitude (pos 2 *ℤ lessExact left t v) ≤ℤ (unit *ℤ (h *ℤ h *ℤ h))
     pub a-half-goes-up : magnitude (pos 2 *ℤ lessExact left t v) ≡ unit *ℤ (h *ℤ h *ℤ h) → pos 0 <ℤ lessExact left t v
