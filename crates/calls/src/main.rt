@@ -23,33 +23,9 @@ const POSITIONS: [i32; 5] = [0, 2, 5, 6, -1];
 // Values with which the first piece bends.
 const BEND: [i32; 3] = [9, 7, 7];
 
-// Numbers to divide: around 0, 2^62 and the ends of 64 bits.
-const NUMBERS: [i64; 20] = [
-    -3,
-    -2,
-    -1,
-    0,
-    1,
-    2,
-    3,
-    7,
-    -4611686018427387906,
-    -4611686018427387905,
-    -4611686018427387904,
-    -4611686018427387903,
-    4611686018427387902,
-    4611686018427387903,
-    4611686018427387904,
-    4611686018427387905,
-    -9223372036854775808,
-    -9223372036854775807,
-    9223372036854775806,
-    9223372036854775807,
-];
-
 fn main() {
     quotients();
-    nearest_of_each(&NUMBERS);
+    nearests();
     texts(b"abc", b"ab c");
     tables(&KNOTS, &VALUES, &SLOPES, &BEND);
     pieces();
@@ -72,15 +48,31 @@ fn quotient(n: i64, d: i64) {
     wholes(b"floor_div # # #\n", n, d, integers::floor_div(n, d));
 }
 
-// Each of these numbers, by odd and even ones and by some that are not positive.
-fn nearest_of_each(numbers: &[i64]) {
-    let mut i = 0;
-    while i < numbers.len() {
-        by_each(numbers[i]);
-        i += 1;
-    }
+// Numbers around 0, 2^62 and the ends of 64 bits.
+fn nearests() {
+    by_each(-3);
+    by_each(-2);
+    by_each(-1);
+    by_each(0);
+    by_each(1);
+    by_each(2);
+    by_each(3);
+    by_each(7);
+    by_each(-4611686018427387906);
+    by_each(-4611686018427387905);
+    by_each(-4611686018427387904);
+    by_each(-4611686018427387903);
+    by_each(4611686018427387902);
+    by_each(4611686018427387903);
+    by_each(4611686018427387904);
+    by_each(4611686018427387905);
+    by_each(-9223372036854775808);
+    by_each(-9223372036854775807);
+    by_each(9223372036854775806);
+    by_each(9223372036854775807);
 }
 
+// By odd and even numbers, and by some that are not positive.
 fn by_each(n: i64) {
     nearest(n, 1);
     nearest(n, 2);
