@@ -249,10 +249,26 @@ static void compare_lengths(void)
     }
 }
 
-/* A piece of the largest size, which no float answer takes. */
+/* Two points alone, and tables so short that each point is near an end: parts of mixed tables. Their end slopes are those of inner points, so
+   that a change that leaves them is seen. */
+static void compare_few(void)
+{
+    static copy c;
+    choose(MIXED, SIZES - 1);
+    for (length = 2; length <= 8; length++)
+        for (size_t start = 0; start + length <= LARGEST; start += length) {
+            table t = table_at(start);
+            copy_table(&c, t);
+            for (size_t k = 0; k < length; k++)
+                compare_changes(&c, (negwafir_change){k, t.knots[k], t.values[k] ^ 1});
+            compare_spoilt(t);
+        }
+}
+
+/* Pieces of the largest size, which no float answer takes, and whose end slopes are of the largest products. */
 static void compare_large(void)
 {
-    static copy c = {.knots = {0, 1024, 1025}, .values = {0, 1048576, 1048577}};
+    static copy c = {.knots = {0, 1024, 2048}, .values = {0, 1048576, 0}};
     size_t before = length;
     length = 3;
     compare_builds(&c);
@@ -286,6 +302,7 @@ static void compare_all(void)
                     compare_spoilt(t);
             }
         }
+    compare_few();
     compare_lengths();
     compare_large();
     compare_verdicts();

@@ -119,9 +119,23 @@ static inline bool within(const int32_t *knots, const int32_t *values, size_t fr
 
 /* ---- slopes */
 
-static inline int32_t end_slope(int64_t h, int64_t z)
+static inline int32_t secant_slope(int64_t h, int64_t z)
 {
     return (int32_t)(256 * z / h);
+}
+
+/* The end piece is h1, z1 and its neighbour h2, z2. One form for all signs: a fall is mirrored, a quotient above the bound is only found where
+   the neighbour goes the other way, whose sign is not looked at therefore, and without a rise the bound is 0. There is one division, whether
+   of the quotient or of the bound. */
+static inline int32_t end_slope(int64_t h1, int64_t z1, int64_t h2, int64_t z2)
+{
+    int64_t rise = size_of(z1), next = z1 < 0 ? -z2 : z2;
+    int64_t above = (2 * h1 + h2) * h2 * rise - h1 * h1 * next, below = h2 * (h1 + h2);
+    if (above <= 0)
+        return 0;
+    bool bounded = above > 3 * rise * below;
+    int64_t size = 256 * (bounded ? 3 * rise : above) / (bounded ? h1 : h1 * below);
+    return (int32_t)(z1 < 0 ? -size : size);
 }
 
 static inline int32_t inner_slope(int64_t h1, int64_t z1, int64_t h2, int64_t z2)
@@ -134,10 +148,12 @@ static inline int32_t inner_slope(int64_t h1, int64_t z1, int64_t h2, int64_t z2
 
 static inline int32_t slope(const int32_t *knots, const int32_t *values, size_t length, size_t i)
 {
+    if (length == 2)
+        return secant_slope(step(knots, 0), step(values, 0));
     if (i == 0)
-        return end_slope(step(knots, 0), step(values, 0));
+        return end_slope(step(knots, 0), step(values, 0), step(knots, 1), step(values, 1));
     if (i + 1 == length)
-        return end_slope(step(knots, i - 1), step(values, i - 1));
+        return end_slope(step(knots, i - 1), step(values, i - 1), step(knots, i - 2), step(values, i - 2));
     return inner_slope(step(knots, i - 1), step(values, i - 1), step(knots, i), step(values, i));
 }
 
@@ -149,15 +165,20 @@ negwafir_refusal reference_build(const int32_t *knots, size_t knots_length, cons
         return counted;
     if (!within(knots, values, 0, knots_length - 1))
         return named(knots, values, knots_length, 0);
+    size_t last = knots_length - 1;
     int64_t h1 = step(knots, 0), z1 = step(values, 0);
-    slopes[0] = end_slope(h1, z1);
-    for (size_t i = 1; i + 1 < knots_length; i++) {
+    if (last == 1) {
+        slopes[0] = slopes[1] = secant_slope(h1, z1);
+        return refusal(DONE, 0);
+    }
+    slopes[0] = end_slope(h1, z1, step(knots, 1), step(values, 1));
+    for (size_t i = 1; i < last; i++) {
         int64_t h2 = step(knots, i), z2 = step(values, i);
         slopes[i] = inner_slope(h1, z1, h2, z2);
         h1 = h2;
         z1 = z2;
     }
-    slopes[knots_length - 1] = end_slope(h1, z1);
+    slopes[last] = end_slope(h1, z1, step(knots, last - 2), step(values, last - 2));
     return refusal(DONE, 0);
 }
 
@@ -203,8 +224,9 @@ negwafir_refusal reference_change_point(int32_t *knots, size_t knots_length, int
         return named_after(knots, values, knots_length, change);
     knots[k] = change.knot;
     values[k] = change.value;
-    size_t end = k + 2 < knots_length ? k + 2 : knots_length;
-    for (size_t i = k == 0 ? 0 : k - 1; i < end; i++)
+    /* The third point from an end is one of those that the end's slope is made of, so that from there on all are renewed. */
+    size_t end = k + 3 < knots_length ? k + 2 : knots_length;
+    for (size_t i = k < 3 ? 0 : k - 1; i < end; i++)
         slopes[i] = slope(knots, values, knots_length, i);
     return refusal(DONE, 0);
 }

@@ -14,14 +14,15 @@
 
 #include "tables.h"
 
-enum { PLACES = 4 };
+enum { PLACES = 6 };
 enum { PAINTED = 4096 }; /* bytes below a call that are looked at: several times what is used */
 
 typedef struct {
     int32_t knots[LARGEST], values[LARGEST], slopes[LARGEST];
 } copy;
 
-static const size_t places[PLACES] = {0, LARGEST / 2, LARGEST - 1, LARGEST}; /* points, and one that is not there */
+/* Points, and one that is not there. A change of the third from an end renews the most slopes. */
+static const size_t places[PLACES] = {0, 2, LARGEST / 2, LARGEST - 3, LARGEST - 1, LARGEST};
 static pid_t stepped; /* the process that is led; 0 in itself */
 static int32_t position;
 static negwafir_change change;
@@ -168,7 +169,7 @@ static void enter(row *r, const copy *from)
 
 /* ---- the tables */
 
-/* Each call over a table: at the first knot, the last, one between and behind the last, and with a change of the point there that changes nothing, or
+/* Each call over a table: at the first knot, the last, some between and behind the last, and with a change of the point there that changes nothing, or
    of none. Where the table is refused one of them is enough: no position is looked at, and where a change is makes little difference. */
 static void enter_all(const copy *c, bool refused)
 {

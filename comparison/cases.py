@@ -30,6 +30,17 @@ GROUPS = (
     ("A width that is too large, at and away from the changed point.", changes.too_wide_elsewhere),
     ("Values just at, above and below a half.", evaluations.halves),
     ("Values so near a half that floats take them for it.", evaluations.halves_past_floats),
+    ("End slopes where a slip would be seen.", tables.end_figures),
+    ("End slopes where the quotient is 0 or its bound, and beside these.", tables.end_borders),
+    ("End slopes at their bound, which is rounded once.", tables.bounded_ends),
+    ("End slopes just at, above and below a whole number.", tables.end_rounding),
+    ("End slopes that floats would get wrong.", tables.ends_past_floats),
+    ("End slopes at the limits.", tables.end_limits),
+    ("An end's slope after a change two points away.", changes.end_figures),
+    ("Three points: every two of some small pieces.", changes.small_ends),
+    ("Each point of 2 to 7 changed, and changed to what it is.", changes.near_the_ends),
+    ("The third point from either end raised and lowered.", changes.third_points),
+    ("Points near the ends, changed again and again.", changes.chains_near_the_ends),
 )
 
 

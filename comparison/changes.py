@@ -656,6 +656,82 @@ def too_wide_elsewhere():
         yield from change_and_show(point, knots[point], point)
 
 
+# ---- the slopes at the ends, which request 2 takes from three points
+
+
+def end_figures():
+    """Changes of built tables with the slope of an end that is not beside the point and follows it, on the left and on the right."""
+    for knots, values, numbers in (
+        (range(3), (0, 0, 1), (0, 0, 1)), (range(3), (1, 0, 0), (2, 2, 1)),
+        (range(4), (0, 1, 1, 1), (2, 2, 2)), (range(4), (1, 1, 1, 0), (1, 1, 2)),
+    ):
+        yield from built(knots, values)
+        yield from change_and_show(*numbers)
+
+
+def small_ends():
+    """Every two of some small pieces side by side, as the points at both ends are changed.
+
+    Opposite rises have opposite slopes, so that of each two pieces and their opposites only one is there, by turns of rises and falls.
+    """
+    pieces = list(product(range(1, 5), range(-6, 7)))
+    some = [(width, rise) for width, rise in pieces if (rise >= 0 if (width + rise) % 2 == 0 else rise <= 0)]
+    yield from table((-1, 0, 1), (0, 0, 0), digits(3))
+    for h1, z1 in some:
+        yield change(0, -h1, -z1)
+        for h2, z2 in pieces if z1 else some:
+            yield change(2, h2, z2)
+            yield b"show slopes"
+
+
+def near_the_ends():
+    """Each point of tables of 2 to 7 points, with rises and falls, changed and then changed to what it is."""
+    dice = Dice(48)
+    for count in range(2, 8):
+        knots = sums([dice.between(4, 9) for _ in range(count - 1)])
+        values = sums([dice.pick(1, -1) * dice.between(10, 99) for _ in range(count - 1)])
+        yield row(b"knots", knots)
+        yield row(b"values", values)
+        for point in range(count):
+            knots[point] += dice.between(-1, 1)
+            values[point] += dice.between(-99, 99)
+            for _ in range(2):
+                yield row(b"slopes", any_slopes(dice, count))
+                yield change(point, knots[point], values[point])
+                yield b"show slopes"
+
+
+def third_points():
+    """The third point from either end raised and lowered, so that the end's slope goes from 0 to its bound.
+
+    The pieces are equally wide: the slope is 0 from three times the end's rise on, and at its bound from three times as great a fall on.
+    """
+    dice = Dice(49)
+    for count, rise in ((3, 10), (4, -10), (5, 10), (6, -10), (8, 10)):
+        values = sums([rise] * (count - 1))
+        for point, near, end in ((2, 1, 0), (count - 3, count - 2, count - 1)):
+            way = 1 if values[near] > values[end] else -1
+            yield from table(range(0, 2 * count, 2), values, any_slopes(dice, count))
+            for step in (31, 30, 29, 0, -29, -30, -31):
+                yield change(point, 2 * point, values[near] + way * step)
+                yield b"show slopes"
+
+
+def chains_near_the_ends():
+    """The third points from the ends of 3 to 7 points, built and then changed many times. The build at last finds the slopes as they are."""
+    dice = Dice(50)
+    for count in (3, 4, 5, 6, 7):
+        knots, values = by_steps(dice, count)
+        yield from built(knots, values)
+        for _ in range(8):
+            point = dice.pick(2, count - 3)
+            numbers = point, good_knot(dice, knots, point), values[point] + dice.between(-9999, 9999)
+            knots, values = after(knots, values, *numbers)
+            yield change(*numbers)
+            yield b"show slopes"
+        yield from BUILD_AND_SHOW
+
+
 GROUPS = (
     ("The changes of document 01.", figures),
     ("Each point of small tables changed.", every_point),

@@ -5,7 +5,8 @@ from itertools import islice
 
 import cases
 import reference
-from tables import NAMES, row
+from changes import end_figures as changed_ends
+from tables import NAMES, end_figures, row
 
 FIRST = 150  # lines of each group, of which the few cases are taken
 SHORT = 150  # bytes that such a case has, with its lists
@@ -15,7 +16,7 @@ AFTER = {b"build": b"show slopes\n", b"change": b"show knots\nshow values\nshow 
 
 def few_cases():
     """Of each command and each form of its answer the first lines, each with the lists that it needs before it."""
-    few, seen, lent = [cases.FIRST_EXAMPLE.read_bytes(), *unlike_pieces()], Counter(), {}
+    few, seen, lent = [cases.FIRST_EXAMPLE.read_bytes(), *unlike_pieces(), *unlike_ends()], Counter(), {}
     for line, lists, answer in answered_lines():
         command = reference.words_of(line)[0]
         form = command, re.sub("[0-9]+", "", answer)
@@ -33,6 +34,18 @@ def unlike_pieces():
     yield from (b"%b %d\n" % (command, position) for position in range(-4, 19) for command in (b"at", b"drive"))
     for line in (b"change 1 5 41\n", b"change 3 12 88\n", b"build\n"):
         yield line + b"show slopes\n"
+
+
+def unlike_ends():
+    """Ends by each case of their rule, where a slip in it is seen, changes that an end follows, two that none follows, and two of two points.
+
+    Of two points there is no third from the end: what a wrong one writes past the slopes, the interpreter alone finds.
+    """
+    yield from (line + b"\n" for group in (end_figures, changed_ends) for line in group())
+    yield b"knots 0 2 4 6 8 10 12 14\nvalues 0 9 13 30 31 50 58 60\nslopes 1 2 3 4 5 6 7 8\n"
+    yield from (line + b"show slopes\n" for line in (b"change 3 6 29\n", b"change 4 8 33\n"))
+    yield b"knots 0 3\nvalues 0 9\nslopes 1 2\n"
+    yield from (line + b"show slopes\n" for line in (b"change 0 1 9\n", b"change 1 3 -10\n"))
 
 
 def answered_lines():

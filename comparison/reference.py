@@ -2,10 +2,11 @@
 
 It shares nothing with the proved program. It decides by document 01's definition, from the exact
 least value of the quadratic over the piece, and not by the test of Fritsch and Carlson. Slopes and
-values are worked out with fractions, which are exact, and rounded at the very end. A value is made
-from the Hermite basis, and not by document 01's line; so is the numerator that the drive is given,
-and no float is used for it. Every piece is asked whether a position is its own. For a change of a point
-all the slopes of the new points are built, and three of them are taken.
+values are worked out with fractions, which are exact, and rounded at the very end. The slope at an end
+is found case by case, as request 2 tells it. A value is made from the Hermite basis, and not by document
+01's line; so is the numerator that the drive is given, and no float is used for it. Every piece is asked
+whether a position is its own. For a change of a point all the slopes of the new points are built, and
+of each it is asked whether the documents name it as renewed.
 """
 import math
 import re
@@ -128,9 +129,20 @@ def evaluation_refusal(knots, values, slopes, position):
     return None if knots[0] <= position <= knots[-1] else refusal(6, 0)
 
 
-def end_slope(width, rise):
-    """The slope at an end of the table: that of the end piece, rounded toward zero."""
+def secant_slope(width, rise):
+    """The slope of the only piece, at both points of a table that has two: rounded toward zero."""
     return math.trunc(Fraction(UNIT * rise, width))
+
+
+def end_slope(h1, z1, h2, z2):
+    """The slope at an end of three points or more, by request 2's words, with the end piece h1, z1 and its neighbour h2, z2: rounded once."""
+    quotient = ((2 * h1 + h2) * Fraction(z1, h1) - h1 * Fraction(z2, h2)) / (h1 + h2)
+    bound = 3 * Fraction(abs(z1), h1)
+    if quotient == 0 or quotient * z1 < 0 or z1 == 0:
+        return 0
+    if z1 * z2 < 0 and abs(quotient) > bound:
+        quotient = bound if z1 > 0 else -bound
+    return math.trunc(UNIT * quotient)
 
 
 def inner_slope(h1, z1, h2, z2):
@@ -147,8 +159,10 @@ def inner_slope(h1, z1, h2, z2):
 def built_slopes(knots, values):
     """The slopes of a table that is not refused, one for each point."""
     pieces = list(zip(differences(knots), differences(values)))
+    if len(pieces) == 1:
+        return [secant_slope(*pieces[0])] * 2
     inner = [inner_slope(*left, *right) for left, right in zip(pieces, pieces[1:])]
-    return [end_slope(*pieces[0]), *inner, end_slope(*pieces[-1])]
+    return [end_slope(*pieces[0], *pieces[1]), *inner, end_slope(*pieces[-1], *pieces[-2])]
 
 
 def piece_at(knots, position):
@@ -226,11 +240,20 @@ def change_refusal(knots, values, slopes, point, knot, value):
     return point_refusal(replaced(knots, point, knot), replaced(values, point, value))
 
 
+def is_renewed(count, point, place):
+    """Whether a change of a point of so many renews the slope at a place: document 01 names three, and request 2 those of the ends."""
+    return (
+        place in (point - 1, point, point + 1)
+        or (point == 2 and place == 0)
+        or (point == count - 3 and place == count - 1)
+    )
+
+
 def changed_table(knots, values, slopes, point, knot, value):
-    """The three lists after a change that is not refused: slopes beside the point are as built, others as they were."""
+    """The three lists after a change that is not refused: slopes that are renewed are as built, others as they were."""
     new_knots, new_values = replaced(knots, point, knot), replaced(values, point, value)
     built = built_slopes(new_knots, new_values)
-    new_slopes = [built[place] if abs(place - point) <= 1 else slope for place, slope in enumerate(slopes)]
+    new_slopes = [built[place] if is_renewed(len(slopes), point, place) else slope for place, slope in enumerate(slopes)]
     return new_knots, new_values, new_slopes
 
 

@@ -1,15 +1,17 @@
-"""The reference held against what was worked out without it: the figures of document 01, the
+"""The reference held against what was worked out without it: the figures of documents 01 and 02, the
 definition tried at every fraction on small pieces, slopes and values found in other ways, the drive's
-answer worked out in floats, changes written entry by entry, and lines whose answers were written by hand.
+answer worked out in floats, changes written entry by entry, the slopes that a change can alter found by
+trying, and lines whose answers were written by hand.
 """
 from fractions import Fraction
 from itertools import product
 
 from dice import Dice, I32_MAX, I32_MIN
 from reference import (
-    LISTS, UNIT, Workbench, answers_to, built_slopes, check_refusal, drive_at, drive_refusal, end_slope, inner_slope,
-    piece_at, refusal, value_at, verdict,
+    LISTS, UNIT, Workbench, answers_to, built_slopes, changed_table, check_refusal, drive_at, drive_refusal, end_slope,
+    inner_slope, piece_at, refusal, secant_slope, value_at, verdict,
 )
+from tables import at_the_borders
 
 # Copied from document 01, "Figures to hold against it".
 FIGURES = (
@@ -27,20 +29,66 @@ FIGURES = (
     (2, 1, 384, 384, "rising"),
 )
 
-# Copied from there too: knots, values, and the slopes built. The last table is the fourth with point 0 changed.
+# Copied from documents 01 and 02: knots, values, and the slopes built. The last table is the fourth with point 0 changed.
 BUILT_FIGURES = (
-    ((0, 1, 2), (0, 1, 4), [256, 384, 768]),
-    ((0, 1, 3), (0, 1, 2), [256, 177, 128]),
+    ((0, 1, 2), (0, 1, 4), [0, 384, 1024]),
+    ((0, 1, 3), (0, 1, 2), [298, 177, 42]),
     ((0, 3), (0, -10), [-853, -853]),
-    ((0, 1, 2, 3), (0, 1, 4, 7), [256, 384, 768, 768]),
+    ((0, 1, 2, 3), (0, 1, 4, 7), [0, 384, 768, 768]),
     ((0, 1, 2, 3), (-2, 1, 4, 7), [768, 768, 768, 768]),
 )
 
-# Copied from there too: changes of the fourth table, each with its answer and the three lists after it.
-CHANGED_FIGURES = (
-    ((0, 0, -2), "ok", [[0, 1, 2, 3], [-2, 1, 4, 7], [768, 768, 768, 768]]),
-    ((1, 2, 1), "refused 3 at 1: a width is not in 1 to 1024", [[0, 1, 2, 3], [0, 1, 4, 7], [256, 384, 768, 768]]),
+# The same at the borders of request 2's rule, worked out without the reference.
+BORDER_FIGURES = (
+    ((0, 1, 2), (0, 1, -1), [640, 0, -896]),  # opposite signs, and not beyond the bound
+    ((0, 1, 2), (0, 1, -2), [768, 0, -1280]),  # the quotient is the bound
+    ((0, 1, 2), (0, 1, -3), [768, 0, -1664]),  # it is beyond the bound, and 896 would bend
+    ((0, 1, 2), (0, 0, 1), [0, 0, 384]),  # no rise in the end piece on the left, nor in the neighbour on the right
+    ((0, 1, 2), (0, 1, 5), [0, 409, 1408]),  # it opposes the rise on the left
+    ((0, 1, 3), (0, -1, -2), [-298, -177, -42]),  # toward zero on falls
+    ((0, 3, 4), (0, 1, -9), [256, 0, -3221]),  # the bound is 768/3, and three times 256/3 rounded would be 255
+    ((0, 2, 3), (0, 1, -9), [384, 0, -3456]),  # the bound is 768/2
+    ((0, 1024, 2048), (0, 1, 2), [0, 0, 0]),  # a quarter of a unit
+    ((0, 1, 2), (0, 1048576, 0), [536870912, 0, -536870912]),  # the steepest end of all, 2^29
+    ((0, 1, 2), (0, 349525, -699051), [268435200, 0, -447392384]),  # the greatest rise there that is held to its bound
+    ((0, 1, 2, 3), (0, 1, 4, 3), [0, 384, 0, -768]),  # both ends of four points
+    ((0, 1, 2, 3), (0, 1, 1, 1), [384, 0, 0, 0]),  # the end piece on the right has no rise, nor has its neighbour
+    ((0, 1), (0, 1), [256, 256]),  # two points have the secant
 )
+
+# An end piece, its neighbour and the slope at the end, each with what a slip would give.
+END_FIGURES = (
+    (1, -2, 2, -2, -597),  # -598 rounded down; -85 with the two widths exchanged
+    (2, -1, 1, 2, -384),  # -554 without the bound; -256 with a bound rounded before it is in units
+    (3, -2, 1, 2, -512),  # -510 with three times the rounded secant for the bound
+    (2, -1, 3, -2, -110),  # -111 from two secants that are rounded first
+    (1, 0, 1, -1, 0),  # 128 where it is not asked whether there is a rise
+    (1, -1, 1, 1, -512),  # 0 as between opposite signs inside
+    (1, 1, 1, -4, 768),  # 896 where the quotient and the bound are rounded to whole values before they are compared
+    (2, -2, 1, 3, -768),  # -938, likewise
+)
+
+# Changes of built tables, each with its answer and the three lists after it. The first two are document 01's.
+CHANGED_FIGURES = (
+    (BUILT_FIGURES[3], (0, 0, -2), "ok", [[0, 1, 2, 3], [-2, 1, 4, 7], [768, 768, 768, 768]]),
+    (
+        BUILT_FIGURES[3], (1, 2, 1),
+        "refused 3 at 1: a width is not in 1 to 1024", [[0, 1, 2, 3], [0, 1, 4, 7], [0, 384, 768, 768]],
+    ),
+    # The last slope of three points follows the first point, and slope 0 of four follows the third, which is point 2.
+    (BORDER_FIGURES[3], (0, 0, 1), "ok", [[0, 1, 2], [1, 0, 1], [-512, 0, 512]]),
+    (BORDER_FIGURES[12], (2, 2, 2), "ok", [[0, 1, 2, 3], [0, 1, 2, 1], [256, 256, 0, -512]]),
+)
+
+# Of each number of points, for a change of each of them: the first and the last of the slopes that are renewed.
+RENEWED = {
+    2: ((0, 1), (0, 1)),
+    3: ((0, 2), (0, 2), (0, 2)),
+    4: ((0, 1), (0, 3), (0, 3), (2, 3)),
+    5: ((0, 1), (0, 2), (0, 4), (2, 4), (3, 4)),
+    6: ((0, 1), (0, 2), (0, 3), (2, 5), (3, 5), (4, 5)),
+    7: ((0, 1), (0, 2), (0, 3), (2, 4), (3, 6), (4, 6), (5, 6)),
+}
 
 LINES = (
     (b"", b""),
@@ -74,8 +122,8 @@ SHOW_ALL = b"show knots\nshow values\nshow slopes\n"
 TABLE_LINES = (
     (b"", b""),
     (b"show knots\nshow values\n show\tslopes \r\n", b"0 1 2\n0 1 4\n7 8 9\n"),
-    (b"build\nshow slopes\nshow knots\nshow values", b"ok\n256 384 768\n0 1 2\n0 1 4\n"),
-    (b"slopes -2147483648 2147483647 0\nbuild\nbuild\nshow slopes", b"ok 3\nok\nok\n256 384 768\n"),
+    (b"build\nshow slopes\nshow knots\nshow values", b"ok\n0 384 1024\n0 1 2\n0 1 4\n"),
+    (b"slopes -2147483648 2147483647 0\nbuild\nbuild\nshow slopes", b"ok 3\nok\nok\n0 384 1024\n"),
     (b"knots 0 3\nvalues 0 -10\nslopes 0 0\nbuild\nshow slopes", b"ok 2\nok 2\nok 2\nok\n-853 -853\n"),
     (b"piece 1 1 256 256\npiece 0 1 0 0\nshow slopes", b"rising\nrefused 3 at 0: a width is not in 1 to 1024\n7 8 9\n"),
     # The lists' faults, each alone.
@@ -91,14 +139,14 @@ TABLE_LINES = (
     (b"knots 0 2 2\nbuild\nshow slopes", b"ok 3\nrefused 3 at 1: a width is not in 1 to 1024\n7 8 9\n"),
     (b"knots 0 1 0\nbuild\nshow slopes", b"ok 3\nrefused 3 at 1: a width is not in 1 to 1024\n7 8 9\n"),
     (b"knots 0 1025 1026\nbuild\nshow slopes", b"ok 3\nrefused 3 at 0: a width is not in 1 to 1024\n7 8 9\n"),
-    (b"knots 0 1024 2048\nbuild\nshow slopes", b"ok 3\nok\n0 0 0\n"),
+    (b"knots 0 1024 2048\nbuild\nshow slopes", b"ok 3\nok\n0 0 1\n"),
     (
         b"knots 2147483646 2147483647 -2147483648\nbuild\nshow slopes\nshow knots",
         b"ok 3\nrefused 3 at 1: a width is not in 1 to 1024\n7 8 9\n2147483646 2147483647 -2147483648\n",
     ),
     (b"values 0 1048577 0\nbuild\nshow slopes", b"ok 3\nrefused 4 at 0: a rise is outside its limits\n7 8 9\n"),
     (b"values 0 1 -1048576\nbuild\nshow slopes", b"ok 3\nrefused 4 at 1: a rise is outside its limits\n7 8 9\n"),
-    (b"values 0 1048576 0\nbuild\nshow slopes", b"ok 3\nok\n268435456 0 -268435456\n"),
+    (b"values 0 1048576 0\nbuild\nshow slopes", b"ok 3\nok\n536870912 0 -536870912\n"),
     (
         b"values -2147483647 -2147483648 2147483647\nbuild\nshow values",
         b"ok 3\nrefused 4 at 1: a rise is outside its limits\n-2147483647 -2147483648 2147483647\n",
@@ -237,10 +285,10 @@ TABLE_LINES = (
         b"ok 3\nrefused 5 at 0: a piece is not monotone\nok 3\nrefused 4 at 1: a rise is outside its limits\n"
         b"ok 3\nrefused 3 at 1: a width is not in 1 to 1024\nok 1\nrefused 1 at 0: the lists' lengths differ\n",
     ),
-    # Changes of a point: the slopes beside it are renewed, also where it stays as it is, and no others.
-    (b"change 1 1 1\n" + SHOW_ALL, b"ok\n0 1 2\n0 1 4\n256 384 768\n"),
-    (b"change 0 0 -2\n" + SHOW_ALL, b"ok\n0 1 2\n-2 1 4\n768 768 9\n"),
-    (b"change 2 2 2\n" + SHOW_ALL, b"ok\n0 1 2\n0 1 2\n7 256 256\n"),
+    # Changes of a point: the slopes beside it are renewed, near an end the end's too, also where it stays as it is, and no others.
+    (b"change 1 1 1\n" + SHOW_ALL, b"ok\n0 1 2\n0 1 4\n0 384 1024\n"),
+    (b"change 0 0 -2\n" + SHOW_ALL, b"ok\n0 1 2\n-2 1 4\n768 768 768\n"),
+    (b"change 2 2 2\n" + SHOW_ALL, b"ok\n0 1 2\n0 1 2\n256 256 256\n"),
     (b"change 2 3 2\nchange 0 -1 0\n" + SHOW_ALL, b"ok\nok\n-1 1 3\n0 1 2\n128 128 128\n"),
     (
         b"knots 0 9\nvalues 5 5\nslopes 1 2\nchange 1 3 -5\n" + SHOW_ALL,
@@ -248,7 +296,12 @@ TABLE_LINES = (
     ),
     (
         b"knots 0 1 2 3 4\nvalues 0 1 2 3 4\nslopes 5 6 7 8 9\nchange 2 2 3\n" + SHOW_ALL,
-        b"ok 5\nok 5\nok 5\nok\n0 1 2 3 4\n0 1 3 3 4\n5 341 0 0 9\n",
+        b"ok 5\nok 5\nok 5\nok\n0 1 2 3 4\n0 1 3 3 4\n128 341 0 0 384\n",
+    ),
+    (
+        b"knots 0 1 2 3 4 5 6\nvalues 0 1 2 3 4 5 6\nslopes 1 2 3 4 5 6 7\nchange 3 3 4\nshow slopes\n"
+        b"change 2 2 3\nshow slopes\nchange 4 4 5\nshow slopes",
+        b"ok 7\n" * 3 + b"ok\n1 2 341 0 0 6 7\nok\n128 341 341 0 0 6 7\nok\n128 341 341 256 0 0 384\n",
     ),
     # Each refusal of a change. Where the point was is not asked, and all the others are.
     (
@@ -280,11 +333,11 @@ TABLE_LINES = (
     ),
     (
         b"knots 0 5000 2\nvalues 0 -2147483648 4\nchange 1 1 1\n" + SHOW_ALL,
-        b"ok 3\nok 3\nok\n0 1 2\n0 1 4\n256 384 768\n",
+        b"ok 3\nok 3\nok\n0 1 2\n0 1 4\n0 384 1024\n",
     ),
     (
         b"knots 0 5000 2\nchange 0 0 0\nchange 2 5001 4\nchange 1 1 1\nshow slopes",
-        b"ok 3\n" + b"refused 3 at 0: a width is not in 1 to 1024\n" * 2 + b"ok\n256 384 768\n",
+        b"ok 3\n" + b"refused 3 at 0: a width is not in 1 to 1024\n" * 2 + b"ok\n0 384 1024\n",
     ),
     # Two of them: lengths, then the count, then the point, then all the widths, then the rises.
     (b"knots 0\nchange 1 0 0", b"ok 1\nrefused 1 at 0: the lists' lengths differ\n"),
@@ -301,7 +354,7 @@ TABLE_LINES = (
     # Changes among other commands, each of which sees the lists as they are.
     (
         b"change 2 4 10\ncheck\nat 3\nchange 9 9 9\nbuild\nshow slopes\nchange 2 2 4\nshow slopes",
-        b"ok\nok\n7\nrefused 7 at 0: no point with this number\nok\n256 354 768\nok\n256 384 768\n",
+        b"ok\nok\n6\nrefused 7 at 0: no point with this number\nok\n128 354 1152\nok\n0 384 1024\n",
     ),
     # Faults of the line.
     (
@@ -394,7 +447,7 @@ COUNT_LINES = (
     (
         set_level(1024) + b"change 1023 1024 5\nchange 1024 1025 3\nchange 1023 1022 3\nshow slopes",
         b"ok 1024\n" * 3 + b"ok\nrefused 7 at 0: no point with this number\n"
-        b"refused 3 at 1022: a width is not in 1 to 1024\n5" + b" 5" * 1021 + b" 0 256\n",
+        b"refused 3 at 1022: a width is not in 1 to 1024\n5" + b" 5" * 1021 + b" 0 426\n",
     ),
     (
         set_level(1025) + b"change 0 0 3\nchange 1025 0 0\nshow slopes",
@@ -480,17 +533,64 @@ def inner_slope_fault():
     return None
 
 
-def end_slope_fault():
-    """A sentence on the first slope at an end that is wrong, or None."""
+def secant_slope_fault():
+    """A sentence on the first slope of two points that is wrong, or None."""
     for width, rise in product((1, 2, 3, 7, 255, 256, 257, 1023, 1024), (0, 1, 2, 3, 5, 999, 1048575, 1048576)):
         size = UNIT * rise // width
-        if (end_slope(width, rise), end_slope(width, -rise)) != (size, -size):
-            return f"an end slope of width {width} and rise {rise}, or {-rise}, is not {size} with its sign"
+        if (secant_slope(width, rise), secant_slope(width, -rise)) != (size, -size):
+            return f"the slope of two points of width {width} and rise {rise}, or {-rise}, is not {size} with its sign"
+    return None
+
+
+def end_slope_in_wholes(h1, z1, h2, z2):
+    """The slope at an end by one division of whole numbers, and without a look at the neighbour's sign, or at whether there is a rise.
+
+    With equal signs the quotient stays below twice the secant, so that it never reaches the bound; and without a rise the bound is 0.
+    """
+    rise, beside = (z1, z2) if z1 >= 0 else (-z1, -z2)
+    above, below = (2 * h1 + h2) * h2 * rise - h1 * h1 * beside, h2 * (h1 + h2)
+    if above <= 0:
+        size = 0
+    elif above > 3 * rise * below:
+        size = 3 * UNIT * rise // h1
+    else:
+        size = UNIT * above // (h1 * below)
+    return size if z1 >= 0 else -size
+
+
+def end_pieces():
+    """End pieces with their neighbours: all small ones, those at the limits, at the borders of the rule and beside them, and any."""
+    yield from product(range(1, 5), range(-9, 10), repeat=2)
+    yield from product((1, 2, 3, 1023, 1024), (-1048576, -1048575, -999, -1, 0, 1, 5, 349525, 1048576), repeat=2)
+    for h1, h2 in (*product(range(1, 13), repeat=2), *product((1, 2, 96, 512, 1020, 1024), repeat=2)):
+        for z1, z2 in at_the_borders(h1, h2):
+            yield from ((h1, z1, h2, z2 + step) for step in (-1, 0, 1))
+    dice = Dice(45)
+    for _ in range(4000):
+        h1, h2, z1, z2 = (dice.up_to_any_size(most) for most in (1024, 1024, 1048576, 1048576))
+        yield h1, z1, h2, dice.pick(1, -1) * z2
+
+
+def end_slope_fault():
+    """A sentence on the first slope at an end of three points or more that is wrong, or None."""
+    for h1, z1, h2, z2, slope in END_FIGURES:
+        first, *_ = built_slopes((0, h1, h1 + h2), (0, z1, z1 + z2))
+        *_, last = built_slopes((0, h2, h1 + h2), (0, z2, z1 + z2))
+        if (end_slope(h1, z1, h2, z2), first, last) != (slope, slope, slope):
+            return f"the slope at the end of {h1, z1} with the neighbour {h2, z2} is not {slope}, or not at both ends"
+    for piece in end_pieces():
+        h1, z1, h2, z2 = piece
+        slope = end_slope(*piece)
+        if slope != end_slope_in_wholes(*piece):
+            return f"the slope at the end of {h1, z1} with the neighbour {h2, z2} is not the one that whole numbers give"
+        if end_slope(h1, -z1, h2, -z2) != -slope:
+            return f"the slope at the end of {h1, -z1} with the neighbour {h2, -z2} is not that of the other signs with a minus"
     return None
 
 
 def small_tables():
-    """Tables of four points with small steps, and with the least and the greatest, as widths and rises."""
+    """Tables of three and four points with small steps, and of four with the least and the greatest, as widths and rises."""
+    yield from product(product(range(1, 5), repeat=2), product(range(-6, 7), repeat=2))
     yield from product(product((1, 2, 3), repeat=3), product(range(-3, 4), repeat=3))
     yield from product(product((1, 1024), repeat=3), product((-1048576, -1, 0, 1, 1048576), repeat=3))
 
@@ -501,11 +601,11 @@ def table_fault():
         width, rise, *slopes = piece
         if (check_refusal((0, width), (0, rise), slopes) is None) == (expected == "bends"):
             return f"piece {piece} is {expected} in document 01, and a check of it as a table says otherwise"
-    for knots, values, expected in BUILT_FIGURES:
+    for knots, values, expected in (*BUILT_FIGURES, *BORDER_FIGURES):
         if built_slopes(knots, values) != expected:
-            return f"knots {knots} and values {values} have slopes {expected} in document 01, and not in the reference"
+            return f"knots {knots} and values {values} must have slopes {expected}, and do not in the reference"
     for widths, rises in small_tables():
-        knots, values = ([sum(steps[:place]) for place in range(4)] for steps in (widths, rises))
+        knots, values = ([sum(steps[:place]) for place in range(len(steps) + 1)] for steps in (widths, rises))
         slopes = built_slopes(knots, values)
         if check_refusal(knots, values, slopes):
             return f"knots {knots}, values {values} with built slopes {slopes} are refused by a check"
@@ -665,8 +765,27 @@ def cause_by_cases(knots, values, slopes, point, knot, value):
     return (*bad_widths, *bad_rises, None)[0]
 
 
+def points_read(count, place):
+    """The points from which a build of so many makes the slope at a place: three in a row, or the only two."""
+    first = max(0, min(place - 1, count - 3))
+    return range(first, min(first + 3, count))
+
+
+def end_by_parabola(knots, values, place):
+    """The slope at an end: of all from 0 to three times the secant the one nearest to that of the parabola through the three points there."""
+    near = 1 if place == 0 else place - 1
+    steepest = 3 * Fraction(values[near] - values[place], knots[near] - knots[place])
+    one, two, three = points_read(len(knots), place)
+    # Lagrange's parabola is a sum of each value times a product that is 1 at its own knot and 0 at the two others. Here are their slopes.
+    parabola = sum(
+        Fraction(values[i] * (2 * knots[place] - knots[j] - knots[k]), (knots[i] - knots[j]) * (knots[i] - knots[k]))
+        for i, j, k in ((one, two, three), (two, three, one), (three, one, two))
+    )
+    return int(UNIT * sorted((0, parabola, steepest))[1])
+
+
 def slope_by_cases(knots, values, place):
-    """The slope that a build of good points gives to one of them: Fritsch and Butland's mean, or an end piece's own."""
+    """The slope that a build of good points gives to one of them: Fritsch and Butland's mean, or an end's, or the only piece's own."""
     if 0 < place < len(knots) - 1:
         h1, h2 = knots[place] - knots[place - 1], knots[place + 1] - knots[place]
         z1, z2 = values[place] - values[place - 1], values[place + 1] - values[place]
@@ -675,8 +794,9 @@ def slope_by_cases(knots, values, place):
         w = Fraction(h1 + 2 * h2, 3 * (h1 + h2))
         size = 1 / (w * h1 / (UNIT * abs(z1)) + (1 - w) * h2 / (UNIT * abs(z2))) // 1
         return size if z1 > 0 else -size
-    left = 0 if place == 0 else place - 1
-    width, rise = knots[left + 1] - knots[left], values[left + 1] - values[left]
+    if len(knots) > 2:
+        return end_by_parabola(knots, values, place)
+    width, rise = knots[1] - knots[0], values[1] - values[0]
     return UNIT * rise // width if rise > 0 else -(UNIT * -rise // width)
 
 
@@ -687,11 +807,9 @@ def change_by_cases(knots, values, slopes, point, knot, value):
         return refusal(*cause), [knots, values, slopes]
     new_knots, new_values, new_slopes = list(knots), list(values), list(slopes)
     new_knots[point], new_values[point] = knot, value
-    if point > 0:
-        new_slopes[point - 1] = slope_by_cases(new_knots, new_values, point - 1)
-    new_slopes[point] = slope_by_cases(new_knots, new_values, point)
-    if point < len(slopes) - 1:
-        new_slopes[point + 1] = slope_by_cases(new_knots, new_values, point + 1)
+    for place in range(len(slopes)):
+        if point in points_read(len(slopes), place):
+            new_slopes[place] = slope_by_cases(new_knots, new_values, place)
     return "ok", [new_knots, new_values, new_slopes]
 
 
@@ -717,7 +835,7 @@ def beside_any(dice, numbers, steps):
 
 def any_change(dice):
     """A small table and a change of it, either of them good or bad: knots, values, slopes, point, knot, value."""
-    count = dice.pick(0, 1, 2, 2, 2, 3, 3, 3, 4, 4, 5, 6)
+    count = dice.pick(0, 1, 2, 2, 2, 3, 3, 3, 4, 4, 5, 6, 7)
     widths = (*range(1, 9), *range(1, 9), *range(1, 9), 1024, dice.pick(0, -1, 1025))
     rises = (*range(-9, 30), dice.pick(1048576, -1048576), dice.pick(1048577, -1048577))
     knots, values = at_an_end(dice, in_steps(dice, count, widths)), at_an_end(dice, in_steps(dice, count, rises))
@@ -734,10 +852,10 @@ def any_change(dice):
 
 def change_fault():
     """A sentence on the first change that is wrong, or None."""
-    for change, answer, lists in CHANGED_FIGURES:
-        workbench = workbench_with(*BUILT_FIGURES[3])
+    for built, change, answer, lists in CHANGED_FIGURES:
+        workbench = workbench_with(*built)
         if (workbench.change(*change), workbench.table()) != (answer, lists):
-            return f"the change {change} does not give {answer} and {lists}, as in document 01"
+            return f"the change {change} of {built} does not give {answer} and {lists}"
     dice, answers = Dice(42), set()
     for _ in range(6000):
         *lists, point, knot, value = any_change(dice)
@@ -746,8 +864,27 @@ def change_fault():
         if (workbench.change(point, knot, value), workbench.table()) != (answer, lists_after):
             return f"the change {point, knot, value} of {lists} does not give {answer} and {lists_after}"
         answers.add(answer)
-    # Done, the three causes that are always at 0, and two that are at each of five pieces.
-    return None if len(answers) == 14 else f"{len(answers)} answers to changes were tried, and it must be 14"
+    # Done, the three causes that are always at 0, and two that are at each of six pieces.
+    return None if len(answers) == 16 else f"{len(answers)} answers to changes were tried, and it must be 16"
+
+
+def renewed_fault():
+    """A sentence on the first point whose change renews other slopes than it can alter in a build, or None."""
+    dice = Dice(46)
+    for count, ranges in RENEWED.items():
+        for point, (first, last) in enumerate(ranges):
+            expected, altered = list(range(first, last + 1)), set()
+            for _ in range(60):
+                knots, values = in_steps(dice, count, range(3, 9)), in_steps(dice, count, range(-9, 10))
+                change = point, knots[point] + dice.between(-2, 2), values[point] + dice.between(-9, 9)
+                *points, slopes = changed_table(knots, values, [I32_MIN] * count, *change)  # no build gives such a slope
+                if [place for place, slope in enumerate(slopes) if slope != I32_MIN] != expected:
+                    return f"the change {change} of knots {knots} and values {values} does not renew the slopes {expected} alone"
+                before, after = built_slopes(knots, values), built_slopes(*points)
+                altered |= {place for place in range(count) if before[place] != after[place]}
+            if sorted(altered) != expected:
+                return f"changes of point {point} of {count} alter the slopes {sorted(altered)}, and it must be {expected}"
+    return None
 
 
 def chain_fault():
@@ -783,7 +920,7 @@ def line_fault():
 def first_fault():
     """A sentence on the first thing that is wrong with the reference, or None."""
     return (
-        piece_fault() or inner_slope_fault() or end_slope_fault() or table_fault()
-        or value_fault() or float_limit_fault() or drive_fault() or position_fault() or change_fault() or chain_fault()
-        or line_fault()
+        piece_fault() or inner_slope_fault() or secant_slope_fault() or end_slope_fault() or table_fault()
+        or value_fault() or float_limit_fault() or drive_fault() or position_fault() or change_fault() or renewed_fault()
+        or chain_fault() or line_fault()
     )

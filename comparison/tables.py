@@ -3,6 +3,7 @@
 Every build is followed by a look at the slope list, so that what a refused build leaves there is compared too.
 """
 from itertools import accumulate, combinations, cycle, islice, product
+from math import gcd
 
 from dice import Dice, I32_MAX, I32_MIN
 from reference import LARGEST_RISE, UNIT, WIDEST
@@ -231,7 +232,7 @@ def wrapped_differences():
 # ---- slopes at their limits, and where rounding is seen
 
 
-def end_slopes():
+def two_points():
     """Tables of two points, many falling: rounding down would be seen."""
     yield row(b"slopes", digits(2))
     for width in (1, 2, 3, 255, 256, 257, WIDEST - 1, WIDEST):
@@ -242,7 +243,7 @@ def end_slopes():
 
 
 def two_ends():
-    """Both ends of a table: each takes the slope of its own piece."""
+    """Both ends of a table: each by its own piece, and by the one beside that."""
     for widths in ((2, 7), (7, 2), (2, 1, 7), (7, 5, 2)):
         yield row(b"knots", sums(widths))
         yield row(b"slopes", digits(len(widths) + 1))
@@ -361,6 +362,100 @@ def ends_of_32_bits():
             yield from values(sums(falls, I32_MIN + sum(rises)))
 
 
+# ---- the ends of three points and more, by request 2
+
+
+def at_both_ends(h1, h2, rises):
+    """Lines that build tables of two pieces of these widths, with each two of these rises and with their opposites, in both orders."""
+    for order in (1, -1):
+        yield row(b"knots", sums((h1, h2)[::order]))
+        for pair, sign in product(rises, (1, -1)):
+            yield from values(sums([sign * rise for rise in pair[::order]]))
+
+
+def end_figures():
+    """Tables at the borders of the rule, and then end pieces with neighbours that let a slip be seen, on the left and on the right."""
+    for widths, rises in (
+        ((1, 1), (1, -2)), ((1, 1), (1, -3)), ((1, 1), (1, -4)), ((1, 1), (0, 1)), ((1, 1), (1, 4)), ((1, 2), (-1, -1)),
+        ((3, 1), (1, -10)), ((2, 1), (1, -10)), ((1024, 1024), (1, 1)), ((1, 1), (1048576, -1048576)),
+        ((1, 1), (349525, -1048576)), ((1, 1, 1), (1, 3, -1)), ((1, 1, 1), (1, 0, 0)),
+    ):
+        yield from points(sums(widths), sums(rises))
+    yield row(b"slopes", digits(3))
+    for h1, z1, h2, z2 in (
+        (1, -2, 2, -2), (2, -1, 1, 2), (3, -2, 1, 2), (2, -1, 3, -2), (1, 0, 1, -1), (1, -1, 1, 1), (2, -2, 1, 3),
+    ):
+        for order in (1, -1):
+            yield row(b"knots", sums((h1, h2)[::order]))
+            yield from values(sums((z1, z2)[::order]))
+
+
+def at_the_borders(h1, h2):
+    """The least rises of an end piece and its neighbour with which the quotient is 0, and those with which it is its bound.
+
+    The first have (2*h1 + h2)*h2*z1 = h1*h1*z2, the others (h1 + 2*h2)*h2*z1 = -h1*h1*z2. Those outside the limits are left out.
+    """
+    for factor, sign in (((2 * h1 + h2) * h2, 1), ((h1 + 2 * h2) * h2, -1)):
+        common = gcd(h1 * h1, factor)
+        z1, z2 = h1 * h1 // common, sign * factor // common
+        if max(z1, abs(z2)) <= LARGEST_RISE:
+            yield z1, z2
+
+
+def end_borders():
+    """Such rises, as great as they can be, and the neighbour's one less and one more."""
+    yield row(b"slopes", digits(3))
+    for h1, h2 in ((1, 1), (7, 5), (1020, 96), (WIDEST, 1), (WIDEST, WIDEST)):
+        for z1, z2 in at_the_borders(h1, h2):
+            most = min(LARGEST_RISE // z1, (LARGEST_RISE - 1) // abs(z2))
+            yield from at_both_ends(h1, h2, [(most * z1, most * z2 + step) for step in (-1, 0, 1)])
+
+
+def bounded_ends():
+    """Ends at their bound, which is rounded once: not a whole number of values, and not three times the rounded secant."""
+    yield row(b"slopes", digits(3))
+    for width, rise in ((3, 1), (7, 5), (300, 1), (1023, 999), (1021, LARGEST_RISE - 2)):
+        yield from at_both_ends(width, 1, [(rise, -LARGEST_RISE)])
+
+
+def end_quotient(h1, z1, h2, z2):
+    """Request 2's quotient at an end, in units of a slope, as its two sides."""
+    return UNIT * ((2 * h1 + h2) * h2 * z1 - h1 * h1 * z2), h1 * h2 * (h1 + h2)
+
+
+def end_rounding():
+    """Ends whose quotient is whole, or just above a whole number, or just below, rising and falling, on the left or on the right."""
+    dice = Dice(47)
+    wanted = {"whole": 5, "above": 5, "below": 5}
+    while any(wanted.values()):
+        h1, h2 = dice.up_to_any_size(WIDEST), dice.up_to_any_size(WIDEST)
+        z1, z2 = dice.up_to_any_size(LARGEST_RISE), dice.pick(1, -1) * dice.up_to_any_size(LARGEST_RISE)
+        whole, where = rounded(*end_quotient(h1, z1, h2, z2))
+        if h1 == h2 or z1 * h2 == z2 * h1 or not 0 < whole * h1 < 3 * UNIT * z1:
+            continue  # whole for too plain a reason, or not taken
+        if wanted.get(where):
+            wanted[where] -= 1
+            order = dice.pick(1, -1)
+            yield from points(sums((h1, h2)[::order]), sums((z1, z2)[::order]))
+            yield from values(sums((-z1, -z2)[::order]))
+
+
+def ends_past_floats():
+    """Ends whose quotient is whole, and which 64-bit floats take for less as soon as they divide a rise by its width."""
+    yield row(b"slopes", digits(3))
+    for h1, z1, h2, z2 in ((992, 1018222, 279, 9648), (640, 331272, 35, 3528), (896, 976905, 616, -99), (747, 814562, 189, -840)):
+        yield from at_both_ends(h1, h2, [(z1, z2)])
+
+
+def end_limits():
+    """The least and the greatest widths and rises side by side, and none: at both ends of each table."""
+    yield row(b"slopes", digits(3))
+    for widths in product((1, WIDEST), repeat=2):
+        yield row(b"knots", sums(widths))
+        for rises in product((-LARGEST_RISE, 0, 1, LARGEST_RISE), repeat=2):
+            yield from values(sums(rises))
+
+
 # ---- what the lists hold from one call to the next
 
 
@@ -466,8 +561,8 @@ GROUPS = (
     ("A width and a rise refused: the width is named.", bad_widths_and_rises),
     ("Several faults of one kind: the first is named.", several_faults),
     ("Differences that would wrap in 32 bits.", wrapped_differences),
-    ("End slopes: rounded toward zero.", end_slopes),
-    ("Each end with the slope of its own piece.", two_ends),
+    ("Two points: the secant, rounded toward zero.", two_points),
+    ("Each end by its own piece and the one beside it.", two_ends),
     ("Every two signs of rises at an inner point.", signs),
     ("Every two of some pieces at the limits side by side.", neighbours_at_the_limits),
     ("Every two of some other pieces side by side.", neighbours),

@@ -74,7 +74,7 @@ static void tell_drive(int32_t position) {
                told.left + told.numerator / told.denominator);
 }
 
-/* A point gets a new knot and value, and the slopes at it and beside it are renewed. */
+/* A point gets a new knot and value, and the slopes that depend on it are renewed. */
 static void change_point(size_t point, int32_t knot, int32_t value) {
     negwafir_change change = {0, 0, 0};
     change.point = point;

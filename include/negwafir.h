@@ -182,8 +182,9 @@ negwafir_refusal negwafir_points(const int32_t *knots, size_t knots_length,
  *
  * PURPOSE    Makes the slopes of a table out of its points, so that every piece is monotone: by
  *            Fritsch and Butland's mean at inner points, 0 where the pieces beside one do not both
- *            rise or both fall, and at the two ends by the slope of the end piece; all rounded
- *            toward 0.
+ *            rise or both fall; at the two ends by PCHIM's end rule, from the end piece and its
+ *            neighbour; and, where there are two points alone, by the slope of their piece; all
+ *            rounded toward 0.
  * ARGUMENTS  knots, values  the points.
  *            slopes  takes the slopes, and is as long as the others. What it holds before does not
  *            matter.
@@ -241,7 +242,7 @@ negwafir_refusal negwafir_changed_points(const int32_t *knots, size_t knots_leng
 /*
  * negwafir_change_point
  *
- * PURPOSE    Gives one point a new knot and a new value, and renews the slopes at it and beside it.
+ * PURPOSE    Gives one point a new knot and a new value, and renews the slopes that depend on it.
  *            After a build that is done and any number of changes, refused ones among them, the
  *            slopes are those that a build would make.
  * ARGUMENTS  knots, values, slopes  the table. Its slopes are not judged; negwafir_check does that.
@@ -254,7 +255,8 @@ negwafir_refusal negwafir_changed_points(const int32_t *knots, size_t knots_leng
  *            4  a rise is outside its limits, after the change; place: the first such piece
  * LISTS      knots, values: the point's entry is written.
  *            slopes: the point's entry and those of the points beside it, where there are such, are
- *            those of a build of the new points.
+ *            those of a build of the new points; and so is, with point 2, entry 0, and, with the
+ *            third point from the end, the last entry.
  *            Every other entry is unchanged; if refused, every entry.
  */
 negwafir_refusal negwafir_change_point(int32_t *knots, size_t knots_length,

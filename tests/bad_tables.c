@@ -54,11 +54,8 @@ static void lists_as_expected(void) {
         wrong("the slopes, or the memory around them, are not as they have to be");
 }
 
-static void expect_slopes(size_t from, size_t to) {
-    int32_t *expected = guarded_expected(&slopes);
-    size_t i;
-    for (i = from; i < to; i++)
-        expected[i] = slope_at(guarded_expected(&knots), guarded_expected(&values), slopes.length, i);
+static void expect_slope(size_t i) {
+    ((int32_t *)guarded_expected(&slopes))[i] = slope_at(guarded_expected(&knots), guarded_expected(&values), slopes.length, i);
 }
 
 static void try_points(void) {
@@ -76,14 +73,27 @@ static void try_check(void) {
     lists_as_expected();
 }
 
+/* What is built is accepted, whatever the points are. */
 static void try_build(void) {
     negwafir_refusal expected = build_refusal(lists());
-    if (expected.number == 0)
-        expect_slopes(0, slopes.length);
+    size_t i;
+    for (i = 0; expected.number == 0 && i < slopes.length; i++)
+        expect_slope(i);
     say("negwafir_build", "");
     allow(READ_ONLY, READ_ONLY, expected.number ? UNTOUCHED : WRITABLE);
     same_refusal(negwafir_build(LISTS), expected);
     lists_as_expected();
+    if (expected.number == 0)
+        same_number("the refusal of what is built", check_refusal(lists()).number, 0);
+}
+
+static void expect_change(negwafir_change change) {
+    size_t i;
+    ((int32_t *)guarded_expected(&knots))[change.point] = change.knot;
+    ((int32_t *)guarded_expected(&values))[change.point] = change.value;
+    for (i = 0; i < slopes.length; i++)
+        if (is_renewed(slopes.length, change.point, i))
+            expect_slope(i);
 }
 
 static void try_change(negwafir_change change) {
@@ -92,13 +102,8 @@ static void try_change(negwafir_change change) {
     allow(READ_ONLY, READ_ONLY, UNTOUCHED);
     same_refusal(negwafir_changed_points(LISTS, change), expected);
     lists_as_expected();
-    if (expected.number == 0) {
-        size_t from = change.point == 0 ? 0 : change.point - 1;
-        size_t to = change.point + 1 == slopes.length ? slopes.length : change.point + 2;
-        ((int32_t *)guarded_expected(&knots))[change.point] = change.knot;
-        ((int32_t *)guarded_expected(&values))[change.point] = change.value;
-        expect_slopes(from, to);
-    }
+    if (expected.number == 0)
+        expect_change(change);
     say_change("negwafir_change_point", change);
     if (expected.number == 0)
         allow(WRITABLE, WRITABLE, WRITABLE);
@@ -153,7 +158,7 @@ static void try_at(int32_t position) {
     try_float_answer(position);
 }
 
-/* ---- answers that are known, and that doubles get wrong */
+/* ---- answers that are known, to which rules.c is held too; doubles get some of them wrong */
 
 static void lend(size_t points) {
     guarded_lend(&knots, points, sizeof(int32_t), where);
@@ -166,12 +171,97 @@ static void put(guarded *g, const int32_t *entries) {
     guarded_keep(g);
 }
 
-static void try_known_slope(void) {
+/* They have been held to rules.c by now. */
+static void same_slopes(const int32_t *known) {
+    const int32_t *list = slopes.list;
+    size_t i;
+    for (i = 0; i < slopes.length; i++)
+        same_number("a slope by rules.c", list[i], known[i]);
+}
+
+static void try_known_slopes(void) {
+    static const struct {
+        size_t points;
+        int32_t knots[4], values[4], slopes[4];
+    } tables[] = {
+        {2, {0, 1}, {0, 1}, {256, 256}},
+        {2, {0, 3}, {0, -10}, {-853, -853}},
+        {3, {0, 1, 2}, {0, 1, 4}, {0, 384, 1024}},
+        {3, {0, 1, 3}, {0, 1, 2}, {298, 177, 42}},
+        {3, {0, 1, 3}, {0, -1, -2}, {-298, -177, -42}},
+        {3, {0, 2, 12}, {0, 21, 72}, {2918, 1904, 153}},
+        {4, {0, 1, 2, 3}, {0, 1, 4, 7}, {0, 384, 768, 768}},
+        {4, {0, 1, 2, 3}, {0, 1, 4, 3}, {0, 384, 0, -768}},
+    };
+    size_t i;
+    for (i = 0; i < COUNT(tables); i++) {
+        lend(tables[i].points);
+        put(&knots, tables[i].knots);
+        put(&values, tables[i].values);
+        try_build();
+        same_slopes(tables[i].slopes);
+    }
+}
+
+static void try_three_points(const int32_t h[2], const int32_t z[2], size_t point, int32_t slope) {
     lend(3);
-    put(&knots, (int32_t[]){0, 2, 12});
-    put(&values, (int32_t[]){0, 21, 72});
+    put(&knots, (int32_t[]){0, h[0], h[0] + h[1]});
+    put(&values, (int32_t[]){0, z[0], z[0] + z[1]});
     try_build();
-    same_number("the inner slope by rules.c", slope_at(knots.list, values.list, 3, 1), 1904);
+    same_number("the end's slope by rules.c", slope_at(knots.list, values.list, 3, point), slope);
+}
+
+/* By the end piece h1, z1 and its neighbour h2, z2: at the first point of three, and the other way round at the last. */
+static void try_known_ends(void) {
+    static const struct {
+        int32_t h1, z1, h2, z2, slope;
+    } ends[] = {
+        {1, -2, 2, -2, -597}, /* toward zero, and with the widths in their order */
+        {2, -1, 3, -2, -110}, /* not from two secants that are rounded */
+        {2, 2, 3, 3, 256}, /* in doubles a little less */
+        {1, 1, 1, 3, 0}, /* zero */
+        {1, 1, 1, 4, 0}, /* opposed */
+        {1, 0, 1, -1, 0}, /* level */
+        {1, 1, 1, 0, 384}, /* beside a level piece */
+        {1, -1, 1, 1, -512}, /* opposite signs, twice the secant */
+        {1, 1, 1, -2, 640}, /* still below the bound */
+        {1, 1, 1, -3, 768}, /* at it */
+        {1, 1, 1, -4, 768}, /* beyond it, though rounded to whole numbers both are 3 */
+        {2, -1, 1, 2, -384}, /* beyond it, which is no whole number */
+        {3, -2, 1, 2, -512}, /* beyond it, which is not three times the rounded secant */
+        {1024, 1, 1024, 1, 0}, /* a quarter, rounded */
+        {1, 1048576, 1, -1048576, 536870912}, /* the steepest */
+        {1, 349525, 1, -1048576, 268435200}, /* the highest rise that is still beyond the bound */
+        {1024, 1048576, 1024, -1048576, 524288}, /* the largest products */
+    };
+    size_t i;
+    for (i = 0; i < COUNT(ends); i++) {
+        try_three_points((int32_t[]){ends[i].h1, ends[i].h2}, (int32_t[]){ends[i].z1, ends[i].z2}, 0, ends[i].slope);
+        try_three_points((int32_t[]){ends[i].h2, ends[i].h1}, (int32_t[]){ends[i].z2, ends[i].z1}, 2, ends[i].slope);
+    }
+}
+
+/* Of tables that were built, and are as built again. */
+static void try_known_changes(void) {
+    static const struct {
+        size_t points;
+        int32_t values[4];
+        negwafir_change change;
+        int32_t slopes[4];
+    } changes[] = {
+        {3, {0, 0, 1}, {0, 0, 1}, {-512, 0, 512}},
+        {4, {0, 1, 1, 1}, {2, 2, 2}, {256, 256, 0, -512}},
+        {4, {0, 1, 4, 7}, {0, 0, -2}, {768, 768, 768, 768}},
+    };
+    size_t i;
+    for (i = 0; i < COUNT(changes); i++) {
+        lend(changes[i].points);
+        put(&knots, (int32_t[]){0, 1, 2, 3});
+        put(&values, changes[i].values);
+        try_build();
+        try_change(changes[i].change);
+        same_slopes(changes[i].slopes);
+    }
 }
 
 static void lend_piece(int32_t h, int32_t z, int32_t m, int32_t n) {
@@ -249,18 +339,37 @@ static void try_lengths(bool good) {
             }
 }
 
-/* Changes far from the ends and from the middle of a long table whose slopes are 0; the one behind each point has to become another. */
-static void try_changes_of_many(void) {
-    static const size_t points[] = {7, 301, 1015};
-    size_t i;
-    what = "a good table";
-    lend(1023);
+/* A good table whose slopes are such as no build makes: each that a change renews becomes another, and so would each that it has to leave. */
+static void lend_unbuilt(size_t points) {
+    lend(points);
     fill(&knots, true, 3, 0);
     fill(&values, true, 1, 5);
-    fill(&slopes, true, 0, 0);
+}
+
+static void try_unbuilt_change(size_t point) {
+    negwafir_change change = {point, 3 * (int32_t)point + 1, (int32_t)point - 1};
+    try_change(change);
+}
+
+/* Each point of few, all of which are near an end. */
+static void try_changes_of_few(void) {
+    size_t points, k;
+    what = "a good table that is not built";
+    for (points = 2; points <= 8; points++)
+        for (k = 0; k < points; k++) {
+            lend_unbuilt(points);
+            try_unbuilt_change(k);
+        }
+}
+
+/* Near the ends of a long table, and far from them and from its middle. */
+static void try_changes_of_many(void) {
+    static const size_t points[] = {2, 3, 7, 301, 1015, 1019, 1020};
+    size_t i;
+    what = "a good table that is not built";
     for (i = 0; i < COUNT(points); i++) {
-        negwafir_change change = {points[i], 3 * (int32_t)points[i] + 1, (int32_t)points[i] - 1};
-        try_change(change);
+        lend_unbuilt(1023);
+        try_unbuilt_change(points[i]);
     }
 }
 
@@ -383,7 +492,7 @@ static void try_positions(void) {
 
 static void try_changes(void) {
     const int32_t *k = knots.list, *v = values.list;
-    size_t points[] = {0, 1, 7, (size_t)dice(knots.length), knots.length / 2, knots.length - 2, knots.length - 1,
+    size_t points[] = {0, 1, 2, 7, (size_t)dice(knots.length), knots.length / 2, knots.length - 3, knots.length - 2, knots.length - 1,
                        knots.length, 65536, (size_t)1 << 32, (size_t)1 << 62, SIZE_MAX};
     static const int32_t shifts[] = {0, 1, -1, 5};
     size_t i;
@@ -454,13 +563,19 @@ void bad_tables(void) {
     guarded_map(&slopes);
     for (where = GUARD_BEHIND; where <= GUARD_BEFORE; where++) {
         what = "a table whose answer is known";
-        trying("a slope that is known");
-        try_known_slope();
+        trying("slopes that are known");
+        try_known_slopes();
+        trying("ends that are known");
+        try_known_ends();
+        trying("changes that are known");
+        try_known_changes();
         trying("a value that is known");
         try_known_value();
         trying("bends that are known");
         try_known_bend(1, 1042998, 801022472, 801022456);
         try_known_bend(1, 0, INT32_MIN, 0);
+        trying("changes of few points");
+        try_changes_of_few();
         trying("changes in a long table");
         try_changes_of_many();
         trying("lengths that 16 bits do not hold");

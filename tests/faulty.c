@@ -51,7 +51,7 @@ static bool is_well_inside(table t, int32_t position) {
     return t.knots[i + 1] - t.knots[i] > 8 && position > t.knots[i] + 1 && position < t.knots[i + 1] - 1;
 }
 
-/* ---- roundings that are not the one wanted */
+/* ---- roundings that are not the one wanted of a value */
 
 static wide toward_zero(wide n, wide d) {
     return n / d;
@@ -136,9 +136,103 @@ negwafir_refusal negwafir_check(TABLE) {
     return refusal;
 }
 
+/* ---- slopes, and the calls that write them */
+
 static int32_t inner_in_doubles(double h1, double z1, double h2, double z2) {
     double left = 2 * h2 + h1, right = h2 + 2 * h1;
     return (int32_t)(256 * (left + right) / (left * h1 / z1 + right * h2 / z2));
+}
+
+/* The rule for an end as the public routine PCHIM works it out. */
+static int32_t end_in_doubles(double h1, double z1, double h2, double z2) {
+    double secant = z1 / h1, next = z2 / h2, both = h1 + h2;
+    double slope = (h1 + both) / both * secant - h1 / both * next;
+    if (slope * secant <= 0)
+        return 0;
+    return (int32_t)(256 * (secant * next < 0 && (slope - 3 * secant) * secant > 0 ? 3 * secant : slope));
+}
+
+/* The rule in its parts: whether the slope is 0, whether the bound is taken, what is taken then, and what otherwise. */
+static bool is_zero_by_fault(table_end e) {
+    if (fault("end_of_a_level_piece_not_0") && e.z1 == 0)
+        return false;
+    if (fault("end_that_opposes_its_piece"))
+        return e.z1 == 0;
+    if (fault("end_opposed_by_a_product_of_64_bits"))
+        return (int64_t)(256 * (uint64_t)e.above * (uint64_t)e.z1) <= 0;
+    if (fault("end_0_between_opposite_rises") && e.z1 * e.z2 < 0)
+        return true;
+    return is_zero_or_opposed(e);
+}
+
+static bool is_bound_by_fault(table_end e) {
+    if (fault("end_without_a_bound"))
+        return false;
+    if (fault("end_bound_compared_before_the_unit"))
+        return e.z1 * e.z2 < 0 && size_of(e.above) / e.below > 3 * size_of(e.z1) / e.h1;
+    return is_beyond_the_bound(e);
+}
+
+static wide in_units_by_fault(wide above, wide below) {
+    if (fault("end_rounded_down"))
+        return rounded_down(256 * above, below);
+    if (fault("end_rounded_to_the_nearest"))
+        return nearest(256 * above, below);
+    if (fault("end_rounded_before_the_unit"))
+        return 256 * (above / below);
+    return 256 * above / below;
+}
+
+static wide bound_by_fault(table_end e) {
+    if (fault("end_bound_of_a_rounded_secant"))
+        return 3 * (256 * e.z1 / e.h1);
+    if (fault("end_bound_rounded_before_the_unit"))
+        return 256 * (3 * e.z1 / e.h1);
+    if (fault("end_bound_without_its_sign"))
+        return 256 * 3 * size_of(e.z1) / e.h1;
+    return in_units_by_fault(3 * e.z1, e.h1);
+}
+
+static wide quotient_by_fault(table_end e) {
+    if (fault("end_of_rounded_secants"))
+        return ((2 * e.h1 + e.h2) * (256 * e.z1 / e.h1) - e.h1 * (256 * e.z2 / e.h2)) / (e.h1 + e.h2);
+    if (fault("end_divided_by_32_bits"))
+        return 256 * e.above / (int32_t)e.below;
+    return in_units_by_fault(e.above, e.below);
+}
+
+static int32_t end_by_fault(table_end e) {
+    if (fault("end_slopes_in_doubles"))
+        return end_in_doubles((double)e.h1, (double)e.z1, (double)e.h2, (double)e.z2);
+    if (is_zero_by_fault(e))
+        return 0;
+    return (int32_t)(is_bound_by_fault(e) ? bound_by_fault(e) : quotient_by_fault(e));
+}
+
+/* As of the piece's two points alone. */
+static int32_t secant_of(const int32_t *knots, const int32_t *values, size_t piece) {
+    return slope_at(knots + piece, values + piece, 2, 0);
+}
+
+static int32_t last_by_fault(const int32_t *knots, const int32_t *values, size_t last) {
+    if (fault("last_end_read_left_to_right"))
+        return end_by_fault(end_at(knots, values, last - 2, last - 1));
+    if (fault("last_end_with_its_widths_swapped")) {
+        int32_t swapped[] = {knots[last - 2], knots[last - 2] + (knots[last] - knots[last - 1]), knots[last]};
+        return end_by_fault(end_at(swapped, values + last - 2, 1, 0));
+    }
+    return end_by_fault(end_at(knots, values, last - 1, last - 2));
+}
+
+static int32_t slope_by_fault(const int32_t *knots, const int32_t *values, size_t points, size_t i) {
+    size_t last = points - 1;
+    if (fault("end_rule_at_two_points") && points == 2)
+        return end_by_fault(end_at(knots, values, 0, 1));
+    if (points == 2 || (i > 0 && i < last))
+        return slope_at(knots, values, points, i);
+    if (fault("ends_by_the_secant") || (fault("ends_of_three_points_by_the_secant") && points == 3))
+        return secant_of(knots, values, i == 0 ? 0 : last - 1);
+    return i == 0 ? end_by_fault(end_at(knots, values, 0, 1)) : last_by_fault(knots, values, last);
 }
 
 negwafir_refusal negwafir_build(const int32_t *knots, size_t knots_length, const int32_t *values, size_t values_length, int32_t *slopes, size_t slopes_length) {
@@ -155,7 +249,7 @@ negwafir_refusal negwafir_build(const int32_t *knots, size_t knots_length, const
     if (refusal.number || (fault("built_only_where_a_piece_bends") && check_refusal(listed(LISTS)).number == 0))
         return refusal;
     for (i = 0; i < end; i++)
-        slopes[i] = slope_at(knots, values, slopes_length, i);
+        slopes[i] = slope_by_fault(knots, values, slopes_length, i);
     if (fault("slopes_left_between_many_points") && slopes_length > 7 && slopes_length < 1023)
         slopes[slopes_length / 3] ^= 1;
     if (fault("inner_slopes_in_doubles") && slopes_length == 3 && slopes[1] > 0)
@@ -180,19 +274,52 @@ negwafir_refusal negwafir_changed_points(TABLE, negwafir_change change) {
     return refusal;
 }
 
-/* Slopes that a change leaves as they were, though they belong to it. */
-static bool left_by_fault(size_t points, size_t changed, size_t i) {
+/* Slopes that a change leaves as they were, though they belong to it. Where point 2 is taken for the second point, slope 0 is left just so. */
+static bool is_left_by_fault(size_t points, size_t changed, size_t i) {
+    if (fault("changed_slope_only"))
+        return i != changed;
     if (fault("slope_behind_the_seventh_of_many_left"))
         return points == 1023 && changed == 7 && i == 8;
     if (fault("slope_left_between_the_ends_and_the_middle"))
         return changed > 4 && changed + 3 < points && changed != points / 2 && i == changed + 1;
+    if (fault("slope_0_left_by_a_change_of_point_2"))
+        return changed == 2 && i == 0;
+    if (fault("last_slope_left_by_a_change_of_the_third_from_the_end"))
+        return changed + 3 == points && i + 1 == points;
+    if (fault("only_slopes_beside_renewed_in_three_points"))
+        return points == 3 && (i > changed + 1 || changed > i + 1);
     return false;
+}
+
+/* Slopes that a change renews, though they do not belong to it. */
+static bool is_added_by_fault(size_t points, size_t changed, size_t i) {
+    if (fault("a_slope_too_many"))
+        return i + 2 == changed || i == changed + 2;
+    if (fault("slope_0_renewed_by_a_change_of_point_3"))
+        return changed == 3 && i == 0;
+    if (fault("last_slope_renewed_by_a_change_of_the_fourth_from_the_end"))
+        return changed + 4 == points && i + 1 == points;
+    return false;
+}
+
+static int32_t renewed_by_fault(const int32_t *knots, const int32_t *values, size_t points, size_t i) {
+    if (fault("changed_ends_by_the_secant") && (i == 0 || i + 1 == points))
+        return secant_of(knots, values, i == 0 ? 0 : i - 1);
+    return slope_by_fault(knots, values, points, i);
+}
+
+/* The slopes that a change renews are one range. Where its end is compared with points - 3, that wraps if there are 2 points, and a change of
+ * the last of them renews a slope behind it. */
+static void renew_by_fault(const int32_t *knots, const int32_t *values, int32_t *slopes, size_t points, size_t changed) {
+    size_t i, end = fault("slopes_renewed_up_to_a_wrapped_end") && changed < points - 3 ? changed + 2 : points;
+    for (i = 0; i < end; i++)
+        if (is_renewed(points, changed, i) ? !is_left_by_fault(points, changed, i) : is_added_by_fault(points, changed, i))
+            slopes[i] = renewed_by_fault(knots, values, points, i);
 }
 
 negwafir_refusal negwafir_change_point(int32_t *knots, size_t knots_length, int32_t *values, size_t values_length, int32_t *slopes, size_t slopes_length,
                                        negwafir_change change) {
     negwafir_refusal refusal = change_refusal(listed(LISTS), change);
-    size_t i, beside = fault("changed_slope_only") ? 0 : fault("a_slope_too_many") ? 2 : 1;
     if (fault("changed_though_refused") && refusal.number == NEGWAFIR_WIDTH)
         knots[change.point] = change.knot;
     if (fault("refused_change_puts_a_knot_back") && refusal.number == NEGWAFIR_WIDTH)
@@ -207,9 +334,7 @@ negwafir_refusal negwafir_change_point(int32_t *knots, size_t knots_length, int3
         return refusal;
     knots[change.point] = change.knot;
     values[change.point] = change.value;
-    for (i = 0; i < slopes_length; i++)
-        if (i + beside >= change.point && i <= change.point + beside && !left_by_fault(slopes_length, change.point, i))
-            slopes[i] = slope_at(knots, values, slopes_length, i);
+    renew_by_fault(knots, values, slopes, slopes_length, change.point);
     return refusal;
 }
 

@@ -13,10 +13,6 @@ static wide step(const int32_t *list, size_t i) {
     return (wide)list[i + 1] - list[i];
 }
 
-static wide size_of(wide x) {
-    return x < 0 ? -x : x;
-}
-
 bool is_count(size_t n) {
     return n >= 2 && n <= 1024;
 }
@@ -27,6 +23,10 @@ bool is_width(wide h) {
 
 bool is_rise(wide z) {
     return z >= -1048576 && z <= 1048576;
+}
+
+wide size_of(wide x) {
+    return x < 0 ? -x : x;
 }
 
 wide rounded_down(wide n, wide d) {
@@ -129,8 +129,34 @@ uint32_t verdict_of(wide h, wide z, wide m, wide n) {
 
 /* ---- slopes */
 
-static int32_t end_slope(wide h, wide z) {
-    return (int32_t)(UNIT * z / h);
+static bool are_opposed(wide x, wide y) {
+    return (x < 0 && y > 0) || (x > 0 && y < 0);
+}
+
+/* C divides toward zero. */
+static int32_t in_units(wide above, wide below) {
+    return (int32_t)(UNIT * above / below);
+}
+
+table_end end_at(const int32_t *knots, const int32_t *values, size_t piece, size_t neighbour) {
+    table_end e = {step(knots, piece), step(values, piece), step(knots, neighbour), step(values, neighbour), 0, 0};
+    e.above = (2 * e.h1 + e.h2) * e.h2 * e.z1 - e.h1 * e.h1 * e.z2;
+    e.below = e.h1 * e.h2 * (e.h1 + e.h2);
+    return e;
+}
+
+bool is_zero_or_opposed(table_end e) {
+    return e.z1 == 0 || e.above == 0 || are_opposed(e.above, e.z1);
+}
+
+bool is_beyond_the_bound(table_end e) {
+    return are_opposed(e.z1, e.z2) && size_of(e.above) * e.h1 > 3 * size_of(e.z1) * e.below;
+}
+
+static int32_t end_slope(table_end e) {
+    if (is_zero_or_opposed(e))
+        return 0;
+    return is_beyond_the_bound(e) ? in_units(3 * e.z1, e.h1) : in_units(e.above, e.below);
 }
 
 static int32_t inner_slope(wide h1, wide z1, wide h2, wide z2) {
@@ -144,11 +170,19 @@ static int32_t inner_slope(wide h1, wide z1, wide h2, wide z2) {
 
 int32_t slope_at(const int32_t *knots, const int32_t *values, size_t points, size_t point) {
     size_t left = point - 1;
+    if (points == 2)
+        return in_units(step(values, 0), step(knots, 0));
     if (point == 0)
-        return end_slope(step(knots, 0), step(values, 0));
+        return end_slope(end_at(knots, values, 0, 1));
     if (point == points - 1)
-        return end_slope(step(knots, left), step(values, left));
+        return end_slope(end_at(knots, values, left, left - 1));
     return inner_slope(step(knots, left), step(values, left), step(knots, point), step(values, point));
+}
+
+bool is_renewed(size_t points, size_t changed, size_t point) {
+    if (point + 1 == changed || point == changed || point == changed + 1)
+        return true;
+    return (changed == 2 && point == 0) || (changed + 3 == points && point + 1 == points);
 }
 
 /* ---- positions */

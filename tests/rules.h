@@ -28,6 +28,23 @@ negwafir_told told_at(table t, int32_t position);
 int32_t slope_at(const int32_t *knots, const int32_t *values, size_t points, size_t point);
 uint32_t verdict_of(wide h, wide z, wide m, wide n);
 
+/* Whether a change of one point renews the slope of another, or its own: those beside it, slope 0 if it is point 2, and the last slope if
+ * it is the third point from the end. */
+bool is_renewed(size_t points, size_t changed, size_t point);
+
+/* An end of three or more points: its piece h1, z1, the neighbour h2, z2, and the quotient ((2*h1 + h2)*z1/h1 - h1*z2/h2) / (h1 + h2), which
+ * is above / below when it is cleared of fractions by h1*h2. */
+typedef struct {
+    wide h1, z1, h2, z2, above, below;
+} table_end;
+
+/* By the number of its piece and that of the neighbour. */
+table_end end_at(const int32_t *knots, const int32_t *values, size_t piece, size_t neighbour);
+
+/* Whether the quotient is zero or opposes z1, or z1 is zero; and whether z1 and z2 have opposite signs and its size is above 3*|z1|/h1. */
+bool is_zero_or_opposed(table_end e);
+bool is_beyond_the_bound(table_end e);
+
 /* The curve at a position of piece i, times its denominator, which is 256 times the width cubed. */
 wide curve_on(table t, size_t i, int32_t position);
 wide denominator_on(table t, size_t i);
@@ -35,6 +52,8 @@ wide denominator_on(table t, size_t i);
 bool is_count(size_t n);
 bool is_width(wide h);
 bool is_rise(wide z);
+
+wide size_of(wide x);
 
 /* The largest whole number that is not above n / d, for a d above 0. */
 wide rounded_down(wide n, wide d);

@@ -17,9 +17,9 @@ use Rattle.change.specs.Change.{Changed}
 count : CountWithin 4
 count = record { low = omega arith; high = omega arith }
 
--- "Points (0,0), (1,1), (2,4), (3,7) have slopes 256, 384, 768, 768."
+-- "points (0,0), (1,1), (2,4), (3,7) have 0, 384, 768, 768", by request 2 of document 02
 abbrev four : Table
-four = table (pos 0 ∷ pos 1 ∷ pos 2 ∷ pos 3 ∷ []) (pos 0 ∷ pos 1 ∷ pos 4 ∷ pos 7 ∷ []) (pos 256 ∷ pos 384 ∷ pos 768 ∷ pos 768 ∷ [])
+four = table (pos 0 ∷ pos 1 ∷ pos 2 ∷ pos 3 ∷ []) (pos 0 ∷ pos 1 ∷ pos 4 ∷ pos 7 ∷ []) (pos 0 ∷ pos 384 ∷ pos 768 ∷ pos 768 ∷ [])
 
 -- "Point 0 changed to (0,−2): 768, 768, 768, 768."
 abbrev lowered : Table
@@ -29,6 +29,38 @@ pub point-0-lowered : Changed (record { point = 0; knot = pos 0; value = negsuc 
 point-0-lowered =
     record {
       refusal = as-changed (record { point = 0; knot = pos 0; value = negsuc 1 }) four (omega arith) (points-accepted (points-by-test (lowered .knots) (lowered .values) refl count tt) refl);
+      knots = refl;
+      values = refl;
+      slopes = refl;
+    }
+
+-- "a change of point 2 also renews slope 0": of (0,0), (1,1), (2,1), (3,1) point 2 becomes (2,2)
+abbrev level : Table
+level = table (pos 0 ∷ pos 1 ∷ pos 2 ∷ pos 3 ∷ []) (pos 0 ∷ pos 1 ∷ pos 1 ∷ pos 1 ∷ []) (pos 384 ∷ pos 0 ∷ pos 0 ∷ pos 0 ∷ [])
+
+abbrev peaked : Table
+peaked = table (pos 0 ∷ pos 1 ∷ pos 2 ∷ pos 3 ∷ []) (pos 0 ∷ pos 1 ∷ pos 2 ∷ pos 1 ∷ []) (pos 256 ∷ pos 256 ∷ pos 0 ∷ negsuc 511 ∷ [])
+
+pub point-2-raised : Changed (record { point = 2; knot = pos 2; value = pos 2 }) level peaked 0 0
+point-2-raised =
+    record {
+      refusal = as-changed (record { point = 2; knot = pos 2; value = pos 2 }) level (omega arith) (points-accepted (points-by-test (peaked .knots) (peaked .values) refl count tt) refl);
+      knots = refl;
+      values = refl;
+      slopes = refl;
+    }
+
+-- "and a change of the third point from the end also renews the last slope": of (0,0), (1,0), (2,1) point 0 becomes (0,1)
+abbrev three : Table
+three = table (pos 0 ∷ pos 1 ∷ pos 2 ∷ []) (pos 0 ∷ pos 0 ∷ pos 1 ∷ []) (pos 0 ∷ pos 0 ∷ pos 384 ∷ [])
+
+abbrev dipped : Table
+dipped = table (pos 0 ∷ pos 1 ∷ pos 2 ∷ []) (pos 1 ∷ pos 0 ∷ pos 1 ∷ []) (negsuc 511 ∷ pos 0 ∷ pos 512 ∷ [])
+
+pub point-0-of-three-raised : Changed (record { point = 0; knot = pos 0; value = pos 1 }) three dipped 0 0
+point-0-of-three-raised =
+    record {
+      refusal = as-changed (record { point = 0; knot = pos 0; value = pos 1 }) three (omega arith) (points-accepted (points-by-test (dipped .knots) (dipped .values) refl (record { low = omega arith; high = omega arith }) tt) refl);
       knots = refl;
       values = refl;
       slopes = refl;

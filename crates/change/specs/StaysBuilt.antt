@@ -1,6 +1,6 @@
 -- "If all slopes were built from the old points, all are then as built from the new ones."
 use mathlib.Core.Path.{_≡_, refl, sym, _∙_, ap, ap₂}
-use mathlib.Core.Bool.{Bool, true, false, cond}
+use mathlib.Core.Bool.{Bool, cond}
 use mathlib.Core.Logic.{⊎-elim}
 use mathlib.Core.List.{List, _∷_}
 use Prim.Native.Nat.{ℕ, zero, suc, _+_, _-_, _<_, _≤_}
@@ -9,16 +9,18 @@ use native.Mathlib.Omega.{arith}
 use lib.IntN.{ℤ, pos, _-ℤ_}
 use lib.ListN.{length, set, length-set}
 use lib.Seq.{getD-set-other}
+use Rattle.integers.specs.Promise.{Decided, holds, fails}
+use Rattle.integers.specs.Order.{<-or-≤}
 use Rattle.cubic.specs.Piece.{unit}
-use Rattle.cubic.specs.Slopes.{endSlope, innerSlope}
+use Rattle.cubic.specs.Slopes.{endSlope, secantSlope, innerSlope}
 use Rattle.table.specs.declared.changed.Change.{Change}
 use Rattle.table.specs.Table.{Table, entry, step}
 use Rattle.table.specs.WouldBe.{changedBy}
-use Rattle.slopes.specs.Slopes.{endAt, innerAt, builtSlope, builtSlopes, tab}
-use Rattle.slopes.specs.Cases.{first-slope, last-slope, inner-slope}
+use Rattle.slopes.specs.Slopes.{builtSlope, builtSlopes, tab}
+use Rattle.slopes.specs.Cases.{same-pieces, slope-of-two, first-slope, last-slope, inner-slope}
 use Rattle.slopes.specs.Put.{tab-length, tab-entry}
-use Rattle.change.specs.Change.{beside, renewed, renewedSlopes, Changed}
-use Rattle.change.specs.Beside.{Near, beside-far}
+use Rattle.change.specs.Change.{Renews, before-it, at-it, behind-it, slope-0, the-last, isRenewed, renewed, renewedSlopes, Changed}
+use Rattle.change.specs.Beside.{is-renewed}
 
 -- ---- a slope out of the point's reach is made from the same entries as before
 
@@ -32,41 +34,47 @@ module _ (ks vs : List ℤ) (k : ℕ) (x y : ℤ) where
   same-step : (list : List ℤ) (z : ℤ) (i : ℕ) → (i ≡ k → ⊥) → (i + 1 ≡ k → ⊥) → step (set list k z) i ≡ step list i
   same-step list z i f g = ap₂ (λ (r l : ℤ). r -ℤ l) (getD-set-other list k (i + 1) z (pos 0) g) (getD-set-other list k i z (pos 0) f)
 
-  same-end : (i : ℕ) → (i ≡ k → ⊥) → (i + 1 ≡ k → ⊥) → endAt ks' vs' i ≡ endAt ks vs i
-  same-end i f g = ap₂ (endSlope unit) (same-step ks x i f g) (same-step vs y i f g)
+  -- a rule over two pieces that the point is no end of
+  same-rule : (rule : (h₁ z₁ h₂ z₂ : ℤ) → ℤ) (i j : ℕ) → (i ≡ k → ⊥) → (i + 1 ≡ k → ⊥) → (j ≡ k → ⊥) → (j + 1 ≡ k → ⊥)
+      → rule (step ks' i) (step vs' i) (step ks' j) (step vs' j) ≡ rule (step ks i) (step vs i) (step ks j) (step vs j)
+  same-rule rule i j a b c d = same-pieces rule (same-step ks x i a b) (same-step vs y i a b) (same-step ks x j c d) (same-step vs y j c d)
 
-  same-inner : (i j : ℕ) → (i ≡ k → ⊥) → (i + 1 ≡ k → ⊥) → (j ≡ k → ⊥) → (j + 1 ≡ k → ⊥) → innerAt ks' vs' i j ≡ innerAt ks vs i j
-  same-inner i j f g h l =
-      ap₂ (λ (w z : ℤ). innerSlope unit w z (step ks' j) (step vs' j)) (same-step ks x i f g) (same-step vs y i f g)
-      ∙ ap₂ (λ (w z : ℤ). innerSlope unit (step ks i) (step vs i) w z) (same-step ks x j h l) (same-step vs y j h l)
-
-  pub same-slope : (i : ℕ) → i < length ks → (Near k i → ⊥) → builtSlope ks' vs' i ≡ builtSlope ks vs i
-  same-slope i in-list far = ⊎-elim first (λ b. ⊎-elim (last b) (inner b) (eq-or-lt-of-le in-list)) (eq-zero-or-pos i)
+  pub same-slope : (i : ℕ) → i < length ks → (Renews (length ks) k i → ⊥) → builtSlope ks' vs' i ≡ builtSlope ks vs i
+  same-slope i in-list far = ⊎-elim more two (<-or-≤ 2 (length ks))
     where
-      near : k ≤ i + 1 → i ≤ k + 1 → ⊥
-      near a b = far (record { before = a; behind = b })
-
       long : length ks' ≡ length ks
       long = length-set ks k x
 
-      first : i ≡ 0 → builtSlope ks' vs' i ≡ builtSlope ks vs i
-      first e =
-          sym (first-slope ks' vs' i e)
-          ∙ same-end 0 (λ (f : 0 ≡ k). near (omega arith) (omega arith)) (λ (f : 0 + 1 ≡ k). near (omega arith) (omega arith))
-          ∙ first-slope ks vs i e
+      two : length ks ≤ 2 → builtSlope ks' vs' i ≡ builtSlope ks vs i
+      two n = sym (slope-of-two ks' vs' i (omega (arith, long))) ∙ ap₂ (secantSlope unit) (same-step ks x 0 left right) (same-step vs y 0 left right) ∙ slope-of-two ks vs i n
+        where
+          left : 0 ≡ k → ⊥
+          left f = ⊎-elim (λ (e : i ≡ 0). far (at-it (omega arith))) (λ (b : 0 < i). far (behind-it (omega arith))) (eq-zero-or-pos i)
 
-      last : 0 < i → suc i ≡ length ks → builtSlope ks' vs' i ≡ builtSlope ks vs i
-      last b l =
-          sym (last-slope ks' vs' i (λ (e : i ≡ 0). omega arith) (omega (arith, long)))
-          ∙ same-end (i - 1) (λ (f : i - 1 ≡ k). near (omega arith) (omega arith)) (λ (f : i - 1 + 1 ≡ k). near (omega arith) (omega arith))
-          ∙ last-slope ks vs i (λ (e : i ≡ 0). omega arith) (omega arith)
+          right : 0 + 1 ≡ k → ⊥
+          right f = ⊎-elim (λ (e : i ≡ 0). far (before-it (omega arith))) (λ (b : 0 < i). far (at-it (omega arith))) (eq-zero-or-pos i)
+
+      first : 2 < length ks → i ≡ 0 → builtSlope ks' vs' i ≡ builtSlope ks vs i
+      first n e =
+          sym (first-slope ks' vs' i e (omega (arith, long)))
+          ∙ same-rule (endSlope unit) 0 1 (λ (f : 0 ≡ k). far (at-it (omega arith))) (λ (f : 0 + 1 ≡ k). far (before-it (omega arith))) (λ (f : 1 ≡ k). far (before-it (omega arith))) (λ (f : 1 + 1 ≡ k). far (slope-0 (omega arith) e))
+          ∙ first-slope ks vs i e n
+
+      last : 2 < length ks → suc i ≡ length ks → builtSlope ks' vs' i ≡ builtSlope ks vs i
+      last n l =
+          sym (last-slope ks' vs' i (omega arith) (omega (arith, long)))
+          ∙ same-rule (endSlope unit) (i - 1) (i - 2) (λ (f : i - 1 ≡ k). far (behind-it (omega arith))) (λ (f : i - 1 + 1 ≡ k). far (at-it (omega arith))) (λ (f : i - 2 ≡ k). far (the-last (omega arith) (omega arith)))
+          (λ (f : i - 2 + 1 ≡ k). far (behind-it (omega arith)))
+          ∙ last-slope ks vs i (omega arith) (omega arith)
 
       inner : 0 < i → suc i < length ks → builtSlope ks' vs' i ≡ builtSlope ks vs i
       inner b l =
-          sym (inner-slope ks' vs' i (λ (e : i ≡ 0). omega arith) (omega (arith, long)))
-          ∙ same-inner (i - 1) i (λ (f : i - 1 ≡ k). near (omega arith) (omega arith)) (λ (f : i - 1 + 1 ≡ k). near (omega arith) (omega arith))
-          (λ (f : i ≡ k). near (omega arith) (omega arith)) (λ (f : i + 1 ≡ k). near (omega arith) (omega arith))
-          ∙ inner-slope ks vs i (λ (e : i ≡ 0). omega arith) (omega arith)
+          sym (inner-slope ks' vs' i b (omega (arith, long)))
+          ∙ same-rule (innerSlope unit) (i - 1) i (λ (f : i - 1 ≡ k). far (behind-it (omega arith))) (λ (f : i - 1 + 1 ≡ k). far (at-it (omega arith))) (λ (f : i ≡ k). far (at-it f)) (λ (f : i + 1 ≡ k). far (before-it f))
+          ∙ inner-slope ks vs i b (omega arith)
+
+      more : 2 < length ks → builtSlope ks' vs' i ≡ builtSlope ks vs i
+      more n = ⊎-elim (first n) (λ b. ⊎-elim (last n) (inner b) (eq-or-lt-of-le in-list)) (eq-zero-or-pos i)
 
 -- ---- so a renewed list of built slopes is a list of built slopes
 
@@ -74,15 +82,15 @@ same-tab : (n : ℕ) (f g : ℕ → ℤ) → ((i : ℕ) → i < n → f i ≡ g 
 same-tab zero f g e = refl
 same-tab (suc n) f g e = ap₂ _∷_ (e 0 (omega arith)) (same-tab n (λ i. f (suc i)) (λ i. g (suc i)) (λ i l. e (suc i) (omega arith)))
 
-renewed-tab : (k n : ℕ) (f g : ℕ → ℤ) → ((i : ℕ) → i < n → (Near k i → ⊥) → g i ≡ f i) → renewed k g (tab n f) ≡ tab n g
-renewed-tab k n f g far = ap (λ (m : ℕ). tab m h) (tab-length n f) ∙ same-tab n h g (λ i l. told i l (beside k i) refl)
+renewed-tab : (k n : ℕ) (f g : ℕ → ℤ) → ((i : ℕ) → i < n → (Renews n k i → ⊥) → g i ≡ f i) → renewed k g (tab n f) ≡ tab n g
+renewed-tab k n f g far = ap (λ (m : ℕ). tab m (h m)) (tab-length n f) ∙ same-tab n (h n) g (λ i l. told i l (is-renewed n k i))
   where
-    h : ℕ → ℤ
-    h i = cond (beside k i) (g i) (entry (tab n f) i)
+    h : ℕ → ℕ → ℤ
+    h m i = cond (isRenewed m k i) (g i) (entry (tab n f) i)
 
-    told : (i : ℕ) → i < n → (b : Bool) → beside k i ≡ b → cond b (g i) (entry (tab n f) i) ≡ g i
-    told i l true e = refl
-    told i l false e = tab-entry n f i l ∙ sym (far i l (beside-far k i e))
+    told : (i : ℕ) → i < n → {b : Bool} → Decided (Renews n k i) b → cond b (g i) (entry (tab n f) i) ≡ g i
+    told i l (holds r) = refl
+    told i l (fails h) = tab-entry n f i l ∙ sym (far i l h)
 
 -- a table whose slopes are all as built from its points
 pub record AllBuilt (t : Table) : Type 0 where

@@ -1,20 +1,22 @@
--- "Each accepted change puts the new knot and value at that point, renews the slopes at it and beside it, and touches nothing else."
+-- "Each accepted change puts the new knot and value at that point, renews the slopes at it and beside it, and touches nothing else." And "a change of point 2 also renews slope 0, and a change of the third point from
+-- the end also renews the last slope."
 use mathlib.Core.Path.{_≡_, refl, sym, _∙_, ap, ap₂}
-use mathlib.Core.Bool.{Bool, true, false, cond}
+use mathlib.Core.Bool.{cond}
 use mathlib.Core.List.{List}
 use Prim.Native.Nat.{ℕ, _<_}
 use native.Mathlib.Omega.{arith}
 use lib.IntN.{ℤ, pos}
 use lib.ListN.{length}
 use lib.Seq.{getD-set-same, getD-set-other}
+use Rattle.integers.specs.Decided.{chosen, passed-over}
 use Rattle.table.specs.declared.changed.Change.{Change}
 use Rattle.table.specs.Table.{Table, entry, pointCount}
 use Rattle.table.specs.WouldBe.{changedBy}
 use Rattle.table.specs.AfterChange.{point-there, equally-long}
 use Rattle.slopes.specs.Slopes.{builtSlope}
 use Rattle.slopes.specs.Put.{tab-entry}
-use Rattle.change.specs.Change.{beside, Changed}
-use Rattle.change.specs.Beside.{Near, beside-near, beside-far}
+use Rattle.change.specs.Change.{Renews, isRenewed, Changed}
+use Rattle.change.specs.Beside.{is-renewed}
 
 module _ {c : Change} {t u : Table} {place : ℕ} (change : Changed c t u 0 place) where
   there : c .point < pointCount t
@@ -36,22 +38,17 @@ module _ {c : Change} {t u : Table} {place : ℕ} (change : Changed c t u 0 plac
   no-other-value-changes i f = ap (λ (list : List ℤ). entry list i) (change .values) ∙ getD-set-other (t .values) (c .point) i (c .value) (pos 0) f
 
   -- slope i, as the definition has it
-  slope-at : (i : ℕ) → i < pointCount t → entry (u .slopes) i ≡ cond (beside (c .point) i) (builtSlope (changedBy c t .knots) (changedBy c t .values) i) (entry (t .slopes) i)
+  slope-at : (i : ℕ) → i < pointCount t → entry (u .slopes) i ≡ cond (isRenewed (pointCount t) (c .point) i) (builtSlope (changedBy c t .knots) (changedBy c t .values) i) (entry (t .slopes) i)
   slope-at i l =
       ap (λ (list : List ℤ). entry list i) (change .slopes)
-      ∙ tab-entry (length (t .slopes)) (λ i. cond (beside (c .point) i) (builtSlope (changedBy c t .knots) (changedBy c t .values) i) (entry (t .slopes) i)) i (omega (arith, l, equally-long c t refl (change .refusal) .slopes))
+      ∙ tab-entry (length (t .slopes)) (λ i. cond (isRenewed (length (t .slopes)) (c .point) i) (builtSlope (changedBy c t .knots) (changedBy c t .values) i) (entry (t .slopes) i)) i (omega (arith, l, equally-long c t refl (change .refusal) .slopes))
+      ∙ ap (λ (n : ℕ). cond (isRenewed n (c .point) i) (builtSlope (changedBy c t .knots) (changedBy c t .values) i) (entry (t .slopes) i)) (equally-long c t refl (change .refusal) .slopes)
 
-  pub the-slopes-at-it-and-beside-it-are-renewed : (i : ℕ) → i < pointCount t → Near (c .point) i → entry (u .slopes) i ≡ builtSlope (u .knots) (u .values) i
-  the-slopes-at-it-and-beside-it-are-renewed i l near =
-      slope-at i l ∙ chosen _ _ (beside (c .point) i) refl ∙ ap₂ (λ (ks vs : List ℤ). builtSlope ks vs i) (sym (change .knots)) (sym (change .values))
-    where
-      chosen : (x y : ℤ) (b : Bool) → beside (c .point) i ≡ b → cond b x y ≡ x
-      chosen x y true e = refl
-      chosen x y false e = absurd (beside-far (c .point) i e near)
+  pub the-slopes-at-it-and-beside-it-are-renewed : (i : ℕ) → i < pointCount t → Renews (pointCount t) (c .point) i → entry (u .slopes) i ≡ builtSlope (u .knots) (u .values) i
+  the-slopes-at-it-and-beside-it-are-renewed i l r =
+      slope-at i l
+      ∙ sym (chosen (entry (t .slopes) i) (is-renewed (pointCount t) (c .point) i) r)
+      ∙ ap₂ (λ (ks vs : List ℤ). builtSlope ks vs i) (sym (change .knots)) (sym (change .values))
 
-  pub no-other-slope-changes : (i : ℕ) → i < pointCount t → (Near (c .point) i → ⊥) → entry (u .slopes) i ≡ entry (t .slopes) i
-  no-other-slope-changes i l far = slope-at i l ∙ chosen _ _ (beside (c .point) i) refl
-    where
-      chosen : (x y : ℤ) (b : Bool) → beside (c .point) i ≡ b → cond b x y ≡ y
-      chosen x y true e = absurd (far (beside-near (c .point) i e))
-      chosen x y false e = refl
+  pub no-other-slope-changes : (i : ℕ) → i < pointCount t → (Renews (pointCount t) (c .point) i → ⊥) → entry (u .slopes) i ≡ entry (t .slopes) i
+  no-other-slope-changes i l far = slope-at i l ∙ sym (passed-over _ (is-renewed (pointCount t) (c .point) i) far)

@@ -1,16 +1,17 @@
-// The slopes that depend on a point: its own, and those of the points beside it.
+// The slopes that depend on a point: its own, those of the points beside it and, near an end, that of the end.
 ghost use mathlib.Core.Path.{_≡_};
-ghost use Prim.Native.Nat.{_+_, _-_, _<_, min};
+ghost use Prim.Native.Nat.{_<_};
 ghost use lib.ListN.{length};
 ghost use Rattle.table.specs.Accepted.{PointsWithin};
 ghost use Rattle.slopes.specs.Slopes.{builtSlope};
 ghost use Rattle.change.specs.Change.{renewed};
+ghost use Rattle.change.specs.Beside.{From, UpTo};
 
 // The first of them.
 fn first(k: usize) -> usize
-    ensures { λ r. ⌜ r ≡ k - 1 ⌝ }
+    ensures { λ r. ⌜ From k r ⌝ }
 {
-    if k == 0 {
+    if k < 3 {
         return 0;
     }
     k - 1
@@ -19,9 +20,9 @@ fn first(k: usize) -> usize
 // The one behind the last of them, in a table of n points.
 fn end(k: usize, n: usize) -> usize
     requires { ⌜ k < n ⌝ }
-    ensures { λ r. ⌜ r ≡ min (k + 2) n ⌝ }
+    ensures { λ r. ⌜ UpTo n k r ⌝ }
 {
-    if n - k < 2 {
+    if n - k < 4 {
         return n;
     }
     k + 2

@@ -7,7 +7,7 @@ mod beside;
 use rules::Refusal;
 use table::Change;
 
-// Gives a point another knot and another value, gives the slopes at it and beside it what a build of the new points gives them, whatever they were, changes no other
+// Gives a point another knot and another value, gives the slopes that depend on it what a build of the new points gives them, whatever they were, changes no other
 // entry, and answers 0 at place 0; or answers the first cause of a refusal, in the order 1, 2, 7, 3, 4, and its first place, and leaves the lists as they were. 3 and 4
 // are asked of the points as they would be.
 pub fn point(knots: &mut [i32], values: &mut [i32], slopes: &mut [i32], change: Change) -> Refusal

@@ -4,19 +4,20 @@ use mathlib.Core.Logic.{⊎-elim}
 use mathlib.Core.List.{[], _∷_}
 use Prim.Native.Nat.{ℕ, zero, suc}
 use native.Mathlib.Omega.{arith}
-use lib.IntN.{ℤ, pos, negsuc, negℤ, _*ℤ_, *ℤ-comm}
+use lib.IntN.{ℤ, pos, negsuc, negℤ, _+ℤ_, _-ℤ_, _*ℤ_, *ℤ-comm}
 use lib.Signed.{_≤ℤ_, _<ℤ_}
 use Rattle.integers.specs.Promise.{floorOf, magnitude, withSign}
 use Rattle.integers.specs.Ring.{ring, quote}
 use Rattle.integers.specs.Linear.{lin, says}
-use Rattle.integers.specs.Order.{≤ℤ-or-<ℤ, signs, positives, 0<-suc, 0≤-number, 0≤-product, 0<-product, <ℤ→≤ℤ, ≤ℤ-antisym, ≤ℤ-trans}
+use Rattle.integers.specs.Order.{≤ℤ-or-<ℤ, signs, positives, 0<-suc, 0≤-number, 0≤-product, 0<-product, <ℤ→≤ℤ, ≤ℤ-antisym, ≤ℤ-trans, ≤ℤ-cancel, at-most}
 use Rattle.integers.specs.Signs.{0<-magnitude, same-sign}
 use Rattle.integers.specs.Division.{0≤-floor, floor-low, toward-scaled}
 use Rattle.integers.specs.Parts.{<-from}
 use Rattle.cubic.specs.Piece.{NeverAgainst, Monotone}
 use Rattle.cubic.specs.Monotone.{monotone-rising, monotone-falling, monotone-level}
-use Rattle.cubic.specs.Slopes.{endSlope, meanAbove, meanBelow, mean, innerSlope}
+use Rattle.cubic.specs.Slopes.{endAbove, endBelow, endSlope, secantSlope, meanAbove, meanBelow, mean, innerSlope}
 use Rattle.cubic.specs.Inner.{inner-level, inner-steep}
+use Rattle.cubic.specs.End.{0<-endBelow, rising-level, rising-quotient, rising-bound, end-turned}
 use Rattle.cubic.specs.Box.{box-accepts, meanBelow-mirrored, mean-in-box}
 
 -- a slope with the sign of the rise and at most three times as steep as the piece
@@ -60,11 +61,11 @@ fair-monotone {U} {h} {z = negsuc k} u₀ h₀ f g =
     turned : {m : ℤ} (f : Fair U h (negsuc k) m) → f .size *ℤ h ≡ negℤ (m *ℤ h)
     turned f = *ℤ-comm (f .size) h ∙ negated-both h (f .size) ∙ ap negℤ (*ℤ-comm h (negℤ (f .size)) ∙ ap (λ (v : ℤ). v *ℤ h) (sym (f .signed)))
 
--- ---- the end rule
+-- ---- the secant, where there are two points alone
 
 module _ {U h : ℤ} (u₀ : pos 0 <ℤ U) (h₀ : pos 0 <ℤ h) where
-  pub end-fair : (z : ℤ) → Fair U h z (endSlope U h z)
-  end-fair z =
+  pub secant-fair : (z : ℤ) → Fair U h z (secantSlope U h z)
+  secant-fair z =
       record {
         size = floorOf (U *ℤ magnitude z) h;
         low = 0≤-floor h (0≤-product (<ℤ→≤ℤ u₀) (0≤-number _));
@@ -92,6 +93,62 @@ level-fair {U} u₀ h z =
     unsigned : (z : ℤ) → pos 0 ≡ withSign z (pos 0)
     unsigned (pos n) = refl
     unsigned (negsuc n) = refl
+
+-- ---- the end rule
+
+-- (3·U·z1 − s·h1)·Q = U·(3·z1·Q − P·h1) + h1·(U·P − s·Q), where P/Q is the quotient
+by-the-identity : {U h Q : ℤ} (s z P : ℤ) → pos 0 ≤ℤ U → pos 0 ≤ℤ h → pos 0 <ℤ Q → (P *ℤ h) ≤ℤ (pos 3 *ℤ z *ℤ Q) → (s *ℤ Q) ≤ℤ (U *ℤ P) → (s *ℤ h) ≤ℤ (pos 3 *ℤ (U *ℤ z))
+by-the-identity {U} {h} {Q} s z P u h₀ q₀ a b =
+    ≤ℤ-cancel q₀
+    (at-most (U *ℤ (pos 3 *ℤ z *ℤ Q -ℤ P *ℤ h) +ℤ h *ℤ (U *ℤ P -ℤ s *ℤ Q)) (ring (U ∷ h ∷ s ∷ z ∷ P ∷ Q ∷ []) (search quote depth 30 fits 9000) tt)
+    (search signs depth 9 fits 9000))
+
+module _ {U h₁ h₂ : ℤ} (u₀ : pos 0 <ℤ U) (a₀ : pos 0 <ℤ h₁) (b₀ : pos 0 <ℤ h₂) where
+  -- to an end piece that does not fall
+  rising-fair : (k : ℕ) (z₂ : ℤ) → Fair U h₁ (pos k) (endSlope U h₁ (pos k) h₂ z₂)
+  rising-fair k z₂ = ⊎-elim level steep (≤ℤ-or-<ℤ (endAbove h₁ (pos k) h₂ z₂) (pos 0))
+    where
+      up : pos 0 ≤ℤ pos k
+      up = 0≤-number k
+
+      level : endAbove h₁ (pos k) h₂ z₂ ≤ℤ pos 0 → Fair U h₁ (pos k) (endSlope U h₁ (pos k) h₂ z₂)
+      level p = subst (Fair U h₁ (pos k)) (rising-level u₀ a₀ b₀ up z₂ p) (level-fair u₀ h₁ (pos k))
+
+      of-size : {s : ℤ} → pos 0 ≤ℤ s → (s *ℤ h₁) ≤ℤ (pos 3 *ℤ (U *ℤ pos k)) → s ≡ endSlope U h₁ (pos k) h₂ z₂ → Fair U h₁ (pos k) (endSlope U h₁ (pos k) h₂ z₂)
+      of-size {s} l h e = record { size = s; low = l; high = h; signed = sym e }
+
+      within : pos 0 <ℤ endAbove h₁ (pos k) h₂ z₂ → (endAbove h₁ (pos k) h₂ z₂ *ℤ h₁) ≤ℤ (pos 3 *ℤ pos k *ℤ endBelow h₁ h₂) → Fair U h₁ (pos k) (endSlope U h₁ (pos k) h₂ z₂)
+      within p q =
+          let u = <ℤ→≤ℤ u₀ in
+          of-size (0≤-floor (endBelow h₁ h₂) (0≤-product u (<ℤ→≤ℤ p)))
+          (by-the-identity (floorOf (U *ℤ endAbove h₁ (pos k) h₂ z₂) (endBelow h₁ h₂)) (pos k) (endAbove h₁ (pos k) h₂ z₂) u (<ℤ→≤ℤ a₀) (0<-endBelow a₀ b₀) q (floor-low (U *ℤ endAbove h₁ (pos k) h₂ z₂) (0<-endBelow a₀ b₀)))
+          (rising-quotient u₀ a₀ b₀ up z₂ p q)
+
+      beyond : (pos 3 *ℤ pos k *ℤ endBelow h₁ h₂) <ℤ (endAbove h₁ (pos k) h₂ z₂ *ℤ h₁) → Fair U h₁ (pos k) (endSlope U h₁ (pos k) h₂ z₂)
+      beyond q =
+          of-size (0≤-floor h₁ (0≤-product (<ℤ→≤ℤ u₀) (0≤-product (0≤-number 3) up)))
+          (subst (λ (v : ℤ). (floorOf (U *ℤ (pos 3 *ℤ pos k)) h₁ *ℤ h₁) ≤ℤ v) (thrice U (pos k)) (floor-low (U *ℤ (pos 3 *ℤ pos k)) a₀))
+          (rising-bound u₀ a₀ b₀ up z₂ q)
+        where
+          thrice : (x y : ℤ) → x *ℤ (pos 3 *ℤ y) ≡ pos 3 *ℤ (x *ℤ y)
+          thrice x y = ring (x ∷ y ∷ []) (search quote depth 30 fits 9000) tt
+
+      steep : pos 0 <ℤ endAbove h₁ (pos k) h₂ z₂ → Fair U h₁ (pos k) (endSlope U h₁ (pos k) h₂ z₂)
+      steep p = ⊎-elim (within p) beyond (≤ℤ-or-<ℤ (endAbove h₁ (pos k) h₂ z₂ *ℤ h₁) (pos 3 *ℤ pos k *ℤ endBelow h₁ h₂))
+
+  pub end-fair : (z₁ z₂ : ℤ) → Fair U h₁ z₁ (endSlope U h₁ z₁ h₂ z₂)
+  end-fair (pos k) z₂ = rising-fair k z₂
+  end-fair (negsuc k) z₂ =
+      let f = rising-fair (suc k) (negℤ z₂) in
+      record {
+        size = f .size;
+        low = f .low;
+        high = f .high;
+        signed = ap (endSlope U h₁ (negsuc k) h₂) (twice z₂) ∙ end-turned U h₁ (pos (suc k)) h₂ (negℤ z₂) ∙ ap negℤ (f .signed);
+      }
+    where
+      twice : (x : ℤ) → x ≡ negℤ (negℤ x)
+      twice x = ring (x ∷ []) (search quote depth 30 fits 9000) tt
 
 -- ---- the mean
 

@@ -1,27 +1,18 @@
 -- The rule for an inner point, case by case: no slope, two rises, two falls.
-use mathlib.Core.Path.{_≡_, refl, sym, _∙_, ap₂, subst}
-use mathlib.Core.Bool.{Bool, true, false, cond}
-use lib.Dec.{T}
+use mathlib.Core.Path.{_≡_, sym, _∙_, ap₂, subst}
 use lib.IntN.{ℤ, pos, negℤ, _*ℤ_, *ℤ-comm}
-use lib.Signed.{_≤ℤ_, _<ℤ_, leZ, clashℤ, leZ-yes}
+use lib.Signed.{_≤ℤ_, _<ℤ_, clashℤ}
 use Rattle.integers.specs.Promise.{magnitude, withSign}
 use Rattle.integers.specs.Signs.{magnitude-up, magnitude-down, sign-up, sign-down, 0<-magnitude, other-up, other-down}
+use Rattle.integers.specs.Decided.{chosen, passed-over, decided-≤}
 use Rattle.cubic.specs.Slopes.{mean, innerSlope}
 
 module _ (U h₁ z₁ h₂ z₂ : ℤ) where
   pub inner-level : (z₁ *ℤ z₂) ≤ℤ pos 0 → pos 0 ≡ innerSlope U h₁ z₁ h₂ z₂
-  inner-level p = go (leZ (z₁ *ℤ z₂) (pos 0)) (p .le)
-    where
-      go : (t : Bool) → T t → pos 0 ≡ cond t (pos 0) (withSign z₁ (mean U h₁ (magnitude z₁) h₂ (magnitude z₂)))
-      go true e = refl
-      go false e = absurd e
+  inner-level p = chosen _ (decided-≤ (z₁ *ℤ z₂) (pos 0)) p
 
   pub inner-steep : pos 0 <ℤ (z₁ *ℤ z₂) → withSign z₁ (mean U h₁ (magnitude z₁) h₂ (magnitude z₂)) ≡ innerSlope U h₁ z₁ h₂ z₂
-  inner-steep p = go (leZ (z₁ *ℤ z₂) (pos 0)) refl
-    where
-      go : (t : Bool) → leZ (z₁ *ℤ z₂) (pos 0) ≡ t → withSign z₁ (mean U h₁ (magnitude z₁) h₂ (magnitude z₂)) ≡ cond t (pos 0) (withSign z₁ (mean U h₁ (magnitude z₁) h₂ (magnitude z₂)))
-      go true e = clashℤ p (leZ-yes (subst T (sym e) tt))
-      go false e = refl
+  inner-steep p = passed-over (pos 0) (decided-≤ (z₁ *ℤ z₂) (pos 0)) (λ l. clashℤ p l)
 
   module _ (p : pos 0 <ℤ (z₁ *ℤ z₂)) where
     -- the magnitudes, whatever they are called

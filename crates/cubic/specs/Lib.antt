@@ -14,5 +14,6 @@ pub mod InOrder
 pub mod Small
 pub mod Box
 pub mod Inner
+pub mod End
 pub mod Fair
 pub mod Decided

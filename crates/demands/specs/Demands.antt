@@ -1,4 +1,4 @@
--- The user's three demands, word for word, as request 6 of document 02 amends them, as predicates of any implementation, and what document 01 says of answers beside them.
+-- The user's three demands, word for word, as requests 2 and 6 of document 02 amend them, as predicates of any implementation, and what document 01 says of answers beside them.
 -- This file has no proof: it can be read from top to bottom. `Met.antt` shows that ours meets them, as Rattle functions and as the library for C; `NothingElse.antt` that whatever meets them answers as ours does; and
 -- `Wrong1.antt`, `Wrong2.antt`, `Wrong3.antt` and `Wrong01.antt` of wrong programs that they do not.
 --
@@ -25,7 +25,8 @@
 --   WidthWithin, RiseWithin       the limits of document 01 (`Limits.antt` of `rules`)
 --   SFits w32 x                   x is a signed number of 32 bits
 --   Belongs ks x i                the position x belongs to piece i: a knot to the piece that starts there, and the last one to the last piece (`Position.antt`)
---   Near k i                      i is k − 1, k or k + 1 (`Beside.antt` of `change`)
+--   Renews n k i                  of n points, a change of point k renews slope i: i is k − 1, k or k + 1; or k is 2 and i is 0; or point k is the third from the end, k + 3 = n, and i the
+--                                 last (`Change.antt` of `change`)
 --   slopeAt, riseAt, unit         the slope of a piece's cubic and the cubic, at a fraction of the width, and 256 (`Piece.antt` of `cubic`)
 --   Floor n d q                   q is n/d rounded down: q·d ≤ n < (q + 1)·d
 --   magnitude x, withSign z x     x without its sign; x with the sign of z
@@ -50,7 +51,7 @@ use Rattle.table.specs.WouldBe.{changedBy, HoldsAfter}
 use Rattle.piece.specs.Promise.{Finding, rising, falling, flat, bends}
 use Rattle.position.specs.Position.{Belongs, HoldsAt}
 use Rattle.drive.specs.Drive.{Telling, resting, ToldAt, HoldsFor}
-use Rattle.change.specs.Beside.{Near}
+use Rattle.change.specs.Change.{Renews}
 
 -- ======== What an implementation is
 
@@ -241,10 +242,28 @@ module _ (h z m n : ℤ) where
 abbrev pub NoneAgainst : Table → Type 0
 NoneAgainst t = (i : ℕ) → i + 1 < length (t .knots) → NoSlopeAgainstItsRise (step (t .knots) i) (step (t .values) i) (entry (t .slopes) i) (entry (t .slopes) (i + 1))
 
--- document 01's rule at the ends, "256·z/h rounded toward zero": its size is 256·|z|/h, rounded down, and its sign that of the rise
-pub record EndRule (h z s : ℤ) : Type 0 where
-  pub size : Floor (pos 256 *ℤ magnitude z) h (magnitude s)
-  pub sign : s ≡ withSign z (magnitude s)
+-- "Times 256, rounded toward zero once, at the end": s is above/below in this unit. Its size is 256·|above|/below, rounded down, and its sign that of above.
+pub record InUnits (above below s : ℤ) : Type 0 where
+  pub size : Floor (pos 256 *ℤ magnitude above) below (magnitude s)
+  pub sign : s ≡ withSign above (magnitude s)
+
+-- document 01's rule at the ends, as request 2 of document 02 amends it: "for the end piece h1, z1 and its neighbour h2, z2, take ((2·h1 + h2)·z1/h1 − h1·z2/h2)/(h1 + h2)". Its numerator and
+-- its denominator, both times h1·h2, so that the latter is above 0:
+abbrev pub endAbove : (h₁ z₁ h₂ z₂ : ℤ) → ℤ
+endAbove h₁ z₁ h₂ z₂ = (pos 2 *ℤ h₁ +ℤ h₂) *ℤ z₁ *ℤ h₂ -ℤ h₁ *ℤ z₂ *ℤ h₁
+
+abbrev pub endBelow : (h₁ h₂ : ℤ) → ℤ
+endBelow h₁ h₂ = h₁ *ℤ h₂ *ℤ (h₁ +ℤ h₂)
+
+pub record EndRule (h₁ z₁ h₂ z₂ s : ℤ) : Type 0 where
+  -- "If it is zero or opposes z1 (or z1 = 0), the slope is 0."
+  pub zero-or-opposed : (endAbove h₁ z₁ h₂ z₂ *ℤ z₁) ≤ℤ pos 0 → s ≡ pos 0
+  -- "If z1 and z2 have opposite signs and its magnitude exceeds 3·|z1|/h1, that bound is taken with z1's sign."
+  pub beyond-the-bound : pos 0 <ℤ (endAbove h₁ z₁ h₂ z₂ *ℤ z₁) → (z₁ *ℤ z₂) <ℤ pos 0 → (pos 3 *ℤ magnitude z₁ *ℤ endBelow h₁ h₂) <ℤ (magnitude (endAbove h₁ z₁ h₂ z₂) *ℤ h₁)
+      → InUnits (withSign z₁ (pos 3 *ℤ magnitude z₁)) h₁ s
+  -- otherwise it is the quotient itself
+  pub otherwise : pos 0 <ℤ (endAbove h₁ z₁ h₂ z₂ *ℤ z₁) → ((z₁ *ℤ z₂) <ℤ pos 0 → (magnitude (endAbove h₁ z₁ h₂ z₂) *ℤ h₁) ≤ℤ (pos 3 *ℤ magnitude z₁ *ℤ endBelow h₁ h₂))
+      → InUnits (endAbove h₁ z₁ h₂ z₂) (endBelow h₁ h₂) s
 
 -- Fritsch and Butland's mean: "If z1·z2 ≤ 0 its slope is 0. Otherwise, with magnitudes of z1 and z2, it is
 -- 768·(h1 + h2)·z1·z2 / ((h1 + 2·h2)·h1·z2 + (2·h1 + h2)·h2·z1) rounded down, then given the sign of the rises."
@@ -253,11 +272,14 @@ pub record MeanRule (h₁ z₁ h₂ z₂ s : ℤ) : Type 0 where
   pub size : pos 0 <ℤ (z₁ *ℤ z₂) → Floor (pos 768 *ℤ (h₁ +ℤ h₂) *ℤ magnitude z₁ *ℤ magnitude z₂) ((h₁ +ℤ pos 2 *ℤ h₂) *ℤ h₁ *ℤ magnitude z₂ +ℤ (pos 2 *ℤ h₁ +ℤ h₂) *ℤ h₂ *ℤ magnitude z₁) (magnitude s)
   pub sign : pos 0 <ℤ (z₁ *ℤ z₂) → s ≡ withSign z₁ (magnitude s)
 
--- the slope s at point i keeps its rule: at the first point and at the last that of the ends, for the end piece, and between two pieces the mean
+-- the slope s at point i keeps its rule: between two pieces the mean, and at the first point and at the last that of the ends, for the end piece and its neighbour
 pub record RightSlope (knots values : List ℤ) (i : ℕ) (s : ℤ) : Type 0 where
-  pub first : i ≡ 0 → EndRule (step knots 0) (step values 0) s
+  -- "Two points keep the secant."
+  pub of-two : length knots ≡ 2 → InUnits (step values 0) (step knots 0) s
+  -- "With three or more points use PCHIM's end rule"
+  pub first : i ≡ 0 → 2 < length knots → EndRule (step knots 0) (step values 0) (step knots 1) (step values 1) s
   pub inner : (j : ℕ) → i ≡ j + 1 → i + 1 < length knots → MeanRule (step knots j) (step values j) (step knots i) (step values i) s
-  pub last : (j : ℕ) → i ≡ j + 1 → i + 1 ≡ length knots → EndRule (step knots j) (step values j) s
+  pub last : (j : ℕ) → i ≡ j + 2 → i + 1 ≡ length knots → EndRule (step knots (j + 1)) (step values (j + 1)) (step knots j) (step values j) s
 
 pub record RightSlopes (knots values slopes : List ℤ) : Type 0 where
   pub as-many : length slopes ≡ length knots
@@ -277,7 +299,7 @@ pub record Demand2 (I : Implementation) : Type 0 where
   pub a-piece-gets-a-yes-exactly-then : {h z m n : ℤ} {o : Outcome (judge h z m n)} → WidthWithin h → RiseWithin z → I .May (judge h z m n) o → (o .answer ≡ bends → ⊥) ↔ NoSlopeAgainstItsRise h z m n
   pub and-is-called-by-its-rise : {h z m n : ℤ} {o : Outcome (judge h z m n)} → WidthWithin h → RiseWithin z → I .May (judge h z m n) o → NoSlopeAgainstItsRise h z m n → CalledByItsRise z (o .answer)
   pub so-does-a-table : {t : Table} {o : Outcome (check t)} → NoneHolds (Holds t) (1 ∷ 2 ∷ 3 ∷ 4 ∷ []) → I .May (check t) o → (o .number ≡ 0) ↔ NoneAgainst t
-  -- "Slopes you build are Fritsch and Butland's mean at inner points and document 01's rule at the two ends, in its units,"
+  -- "Slopes you build are Fritsch and Butland's mean at inner points and document 01's rule at the two ends, in its units," that rule as request 2 of document 02 amends it
   pub slopes-you-build : {t : Table} {o : Outcome (build t)} → I .May (build t) o → o .number ≡ 0 → RightSlopes (t .knots) (t .values) (o .lists)
   -- "and get a yes always."
   pub get-a-yes-always : {t : Table} {o : Outcome (build t)} {p : Outcome (check (table (t .knots) (t .values) (o .lists)))}
@@ -298,12 +320,12 @@ pub record JustThis (c : Change) (before after : Table) : Type 0 where
   -- "puts the new knot and value at that point,"
   pub knot : entry (after .knots) (c .point) ≡ c .knot
   pub value : entry (after .values) (c .point) ≡ c .value
-  -- "renews the slopes at it and beside it,"
-  pub slopes-near : (i : ℕ) → i < length (before .knots) → Near (c .point) i → RightSlope (after .knots) (after .values) i (entry (after .slopes) i)
+  -- "renews the slopes at it and beside it," and "a change of point 2 also renews slope 0, and a change of the third point from the end also renews the last slope." (document 02, request 2)
+  pub renewed-slopes : (i : ℕ) → i < length (before .knots) → Renews (length (before .knots)) (c .point) i → RightSlope (after .knots) (after .values) i (entry (after .slopes) i)
   -- "and touches nothing else."
   pub other-knots : (i : ℕ) → (i ≡ c .point → ⊥) → entry (after .knots) i ≡ entry (before .knots) i
   pub other-values : (i : ℕ) → (i ≡ c .point → ⊥) → entry (after .values) i ≡ entry (before .values) i
-  pub other-slopes : (i : ℕ) → i < length (before .knots) → (Near (c .point) i → ⊥) → entry (after .slopes) i ≡ entry (before .slopes) i
+  pub other-slopes : (i : ℕ) → i < length (before .knots) → (Renews (length (before .knots)) (c .point) i → ⊥) → entry (after .slopes) i ≡ entry (before .slopes) i
   pub as-many-knots : length (after .knots) ≡ length (before .knots)
   pub as-many-values : length (after .values) ≡ length (before .values)
   pub as-many-slopes : length (after .slopes) ≡ length (before .slopes)
@@ -317,7 +339,8 @@ pub record Demand3 (I : Implementation) : Type 0 where
   pub the-slopes-equal-those-built-afresh : {t : Table} {o : Outcome (build t)} {changes : List Change} {u : Table} {again : List ℤ} {p : Outcome (build (table (u .knots) (u .values) again))}
       → I .May (build t) o → o .number ≡ 0 → ChainOf I [] changes (table (t .knots) (t .values) (o .lists)) u → length again ≡ length (u .knots)
       → I .May (build (table (u .knots) (u .values) again)) p → (p .number ≡ 0) × (p .lists ≡ u .slopes)
-  -- "Each accepted change puts the new knot and value at that point, renews the slopes at it and beside it, and touches nothing else."
+  -- "Each accepted change puts the new knot and value at that point, renews the slopes at it and beside it, and touches nothing else." And "a change of point 2 also renews slope 0, and a
+  -- change of the third point from the end also renews the last slope."
   pub each-accepted-change-does-just-this : {made : List Change} {c : Change} {t : Table} {o : Outcome (point made c t)} → I .May (point made c t) o → o .number ≡ 0 → JustThis c t (o .lists)
   -- "It is refused exactly when a fresh build of the changed points would be, or the point isn't there."
   pub refused-exactly-as-a-build : {made : List Change} {c : Change} {t : Table} {o : Outcome (point made c t)} {p : Outcome (build (changedBy c t))} → I .May (point made c t) o

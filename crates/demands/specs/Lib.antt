@@ -24,6 +24,7 @@ pub mod Wrong3
 pub mod WrongAnswers
 pub mod WrongCommands
 pub mod WrongDrives
+pub mod WrongEnds
 pub mod WrongLists
 pub mod WrongNumbers
 pub mod WrongPieces

@@ -12,6 +12,7 @@ use lib.ListN.{length, length-set}
 use Rattle.cubic.specs.Monotone.{monotone-stable}
 use Rattle.rules.specs.Limits.{WidthWithin, RiseWithin}
 use Rattle.rules.specs.Refusals.{Given, done, refused, passed, Answered, answered}
+use Rattle.integers.specs.Order.{<-or-≤}
 use Rattle.rules.specs.Order.{one-given, went-on, passes-at-0, kept, answer-right}
 use Rattle.integers.specs.Signs.{by-sign}
 use Rattle.table.specs.declared.changed.Change.{Change}
@@ -45,7 +46,7 @@ use Rattle.demands.specs.Kept.{Promised, Keeps, ours-keeps, ours-in-C-ke
 use Rattle.demands.specs.ByOrder.{refused-exactly, none-given}
 use Rattle.demands.specs.Refuting.{apart}
 use Rattle.demands.specs.Cubic.{no-slope-against, monotone-without}
-use Rattle.demands.specs.Shown.{by-a-build, by-a-check, by-an-evaluation, by-a-float-answer, right-slope, less-or-not}
+use Rattle.demands.specs.Shown.{by-a-build, by-a-check, by-an-evaluation, by-a-float-answer, right-slope}
 use Rattle.demands.specs.Values.{the-value-is-exact}
 
 -- ---- the parts of a ruling
@@ -190,7 +191,7 @@ just-this {c} {before} {after} {place = place} e p =
     record {
       knot = the-point-holds-the-new-knot change;
       value = the-point-holds-the-new-value change;
-      slopes-near = λ i l near. subst (RightSlope (after .knots) (after .values) i) (sym (the-slopes-at-it-and-beside-it-are-renewed change i l near)) (right-slope (within-then change) i);
+      renewed-slopes = λ i l near. subst (RightSlope (after .knots) (after .values) i) (sym (the-slopes-at-it-and-beside-it-are-renewed change i l near)) (right-slope (within-then change) i);
       other-knots = no-other-knot-changes change;
       other-values = no-other-value-changes change;
       other-slopes = no-other-slope-changes change;
@@ -202,7 +203,7 @@ just-this {c} {before} {after} {place = place} e p =
 refused-as-a-build : {c : Change} {before after : Table} {built : List ℤ} {number place m q : ℕ} → Changed c before after number place
     → Built (changedBy c before .knots) (changedBy c before .values) (before .slopes) built m q → (number ≡ 0 → ⊥) ↔ ((m ≡ 0 → ⊥) ⊎ (length (before .knots) ≤ c .point))
 refused-as-a-build {c} {before} change afresh = (
-  λ f. ⊎-elim (λ l. inl (λ e. f (made-then change afresh l e))) inr (less-or-not (c .point) (length (before .knots))),
+  λ f. ⊎-elim (λ l. inl (λ e. f (made-then change afresh l e))) inr (<-or-≤ (c .point) (length (before .knots))),
   λ r e. let made = made-only-then change afresh e in ⊎-elim (λ g. g (made .1)) (λ l. absurd (omega (arith, l, made .0))) r,
 )
 

@@ -1,7 +1,7 @@
 -- Whatever meets the demands, and what document 01 says beside them, answers as ours does: of each call the demands admit what is promised, and nothing else. So no wrong program meets
 -- them, whatever it looks like, and who makes a sentence say less loses this proof.
 use mathlib.Core.Path.{_≡_, refl, sym, _∙_, ap, ap₂, subst, subst₂}
-use mathlib.Core.Bool.{Bool, true, false, cond}
+use mathlib.Core.Bool.{Bool, cond}
 use mathlib.Core.Logic.{_⊎_, inl, inr, ⊎-elim}
 use mathlib.Core.List.{List, [], _∷_}
 use Prim.Native.Nat.{ℕ, zero, suc, _+_, _<_}
@@ -11,6 +11,8 @@ use lib.IntN.{ℤ, pos}
 use lib.Signed.{_<ℤ_}
 use lib.ListN.{length, set, length-set}
 use lib.Seq.{ext-getD, getD-set-same, getD-set-other}
+use Rattle.integers.specs.Promise.{Decided, holds, fails}
+use Rattle.integers.specs.Order.{<-or-≤}
 use Rattle.rules.specs.Known.{0<-width}
 use Rattle.rules.specs.Refusals.{Given, Answered}
 use Rattle.rules.specs.Order.{one-given, passes-at-0, kept, replaced, refused-answer, right-answer}
@@ -30,16 +32,16 @@ use Rattle.slopes.specs.Put.{tab-length, tab-entry}
 use Rattle.position.specs.Found.{every-position-has-an-answer}
 use Rattle.position.specs.Refused.{accepted-at}
 use Rattle.drive.specs.Found.{every-float-answer-is-refused-or-not}
-use Rattle.change.specs.Change.{beside, renewedSlopes}
-use Rattle.change.specs.Beside.{beside-near, beside-far}
+use Rattle.change.specs.Change.{Renews, renewedSlopes}
+use Rattle.change.specs.Beside.{is-renewed}
 use Rattle.demands.specs.Demands.{Call, judge, points, build, check, locate, evaluate, float-answer, changed-points, point, Outcome, Implementation, CauseOf, orderOf, Demand1, CalledByItsRise, it-rises, it-falls, it-is-flat, RightSlope, RightSlopes, Demand2, JustThis, Demand3, Document01}
 use Rattle.demands.specs.ByOrder.{refused-exactly}
 use Rattle.demands.specs.Cubic.{monotone-without, no-slope-against}
 use Rattle.demands.specs.Kept.{Promised}
 use Rattle.demands.specs.Met.{alone, findingOf, not-bends}
 use Rattle.demands.specs.Programs.{its-refusal}
-use Rattle.demands.specs.Rules.{one-end, one-mean}
-use Rattle.demands.specs.Shown.{right-slope, less-or-not}
+use Rattle.demands.specs.Rules.{one-in-units, one-end, one-mean}
+use Rattle.demands.specs.Shown.{right-slope}
 use Rattle.demands.specs.Values.{the-exact-is-the-value}
 
 -- ---- the number and the place
@@ -105,17 +107,21 @@ module _ {ks vs : List ℤ} (p : PointsWithin ks vs) where
   width i l = 0<-width (p .widths i l)
 
   one-slope : (i : ℕ) {s r : ℤ} → i < length ks → RightSlope ks vs i s → RightSlope ks vs i r → s ≡ r
-  one-slope zero l a b = one-end (width 0 (omega (arith, p .count .low))) (a .first refl) (b .first refl)
-  one-slope (suc j) {s} {r} l a b = ⊎-elim at-the-end between (eq-or-lt-of-le l)
+  one-slope i {s} {r} l a b = ⊎-elim two (three i l a b) (eq-or-lt-of-le (p .count .low))
     where
-      at : suc j ≡ j + 1
-      at = omega arith
+      two : 2 ≡ length ks → s ≡ r
+      two n = one-in-units (width 0 (omega arith)) (a .of-two (sym n)) (b .of-two (sym n))
 
-      at-the-end : suc (suc j) ≡ length ks → s ≡ r
-      at-the-end e = one-end (width j (omega arith)) (a .last j at (omega arith)) (b .last j at (omega arith))
+      three : (i : ℕ) → i < length ks → RightSlope ks vs i s → RightSlope ks vs i r → 2 < length ks → s ≡ r
+      three zero l a b n = one-end (width 0 (omega arith)) (width 1 (omega arith)) (a .first refl n) (b .first refl n)
+      three (suc zero) l a b n = one-mean (width 0 (omega arith)) (width 1 (omega arith)) (a .inner 0 refl n) (b .inner 0 refl n)
+      three (suc (suc j)) l a b n = ⊎-elim at-the-end between (eq-or-lt-of-le l)
+        where
+          at-the-end : suc (suc (suc j)) ≡ length ks → s ≡ r
+          at-the-end e = one-end (width (j + 1) (omega arith)) (width j (omega arith)) (a .last j (omega arith) (omega arith)) (b .last j (omega arith) (omega arith))
 
-      between : suc (suc j) < length ks → s ≡ r
-      between m = one-mean (width j (omega arith)) (width (suc j) (omega arith)) (a .inner j at (omega arith)) (b .inner j at (omega arith))
+          between : suc (suc (suc j)) < length ks → s ≡ r
+          between m = one-mean (width (suc j) (omega arith)) (width (suc (suc j)) (omega arith)) (a .inner (suc j) (omega arith) (omega arith)) (b .inner (suc j) (omega arith) (omega arith))
 
   built-so : {slopes : List ℤ} → RightSlopes ks vs slopes → slopes ≡ builtSlopes ks vs
   built-so {slopes} r =
@@ -147,7 +153,7 @@ set-so k x before after e l here others =
     at i e = ap (entry after) e ∙ here ∙ sym (getD-set-same before k x (pos 0) l) ∙ ap (entry (set before k x)) (sym e)
 
     same-or-not : (i j : ℕ) → (i ≡ j) ⊎ (i ≡ j → ⊥)
-    same-or-not i j = ⊎-elim (λ l. inr (λ e. omega (arith, l, e))) (λ l. ⊎-elim (λ m. inr (λ e. omega (arith, m, e))) (λ m. inl (omega (arith, l, m))) (less-or-not j i)) (less-or-not i j)
+    same-or-not i j = ⊎-elim (λ l. inr (λ e. omega (arith, l, e))) (λ l. ⊎-elim (λ m. inr (λ e. omega (arith, m, e))) (λ m. inl (omega (arith, l, m))) (<-or-≤ j i)) (<-or-≤ i j)
 
 module _ {c : Change} {t u : Table} {number place : ℕ} (e : number ≡ 0) (g : Given (CauseOf (point [] c t)) (orderOf (point [] c t)) number place) (j : JustThis c t u) where
   there : c .point < length (t .knots)
@@ -163,7 +169,7 @@ module _ {c : Change} {t u : Table} {number place : ℕ} (e : number ≡ 0) (g :
   within = subst₂ PointsWithin (sym knots-so) (sym values-so) (accepted-then c t e g)
 
   slopes-so : u .slopes ≡ renewedSlopes c t
-  slopes-so = ext-getD (pos 0) (u .slopes) (renewedSlopes c t) (j .as-many-slopes ∙ sym (tab-length (length (t .slopes)) _)) (λ i l. at i (in-slopes i l) (beside (c .point) i) refl ∙ sym (tab-entry (length (t .slopes)) _ i (in-slopes i l)))
+  slopes-so = ext-getD (pos 0) (u .slopes) (renewedSlopes c t) (j .as-many-slopes ∙ sym (tab-length (length (t .slopes)) _)) (λ i l. at i (in-slopes i l) (is-renewed (length (t .slopes)) (c .point) i) ∙ sym (tab-entry (length (t .slopes)) _ i (in-slopes i l)))
     where
       in-slopes : (i : ℕ) → i < length (u .slopes) → i < length (t .slopes)
       in-slopes i l = omega (arith, l, j .as-many-slopes)
@@ -171,11 +177,15 @@ module _ {c : Change} {t u : Table} {number place : ℕ} (e : number ≡ 0) (g :
       in-knots : (i : ℕ) → i < length (t .slopes) → i < length (t .knots)
       in-knots i l = omega (arith, l, equally-long c t e g .slopes)
 
-      at : (i : ℕ) → i < length (t .slopes) → (b : Bool) → beside (c .point) i ≡ b → entry (u .slopes) i ≡ cond b (builtSlope (changedBy c t .knots) (changedBy c t .values) i) (entry (t .slopes) i)
-      at i l true b =
-          one-slope within i (omega (arith, in-knots i l, j .as-many-knots)) (j .slopes-near i (in-knots i l) (beside-near (c .point) i b)) (right-slope within i)
+      as-long : length (t .slopes) ≡ length (t .knots)
+      as-long = equally-long c t e g .slopes
+
+      at : (i : ℕ) → i < length (t .slopes) → {b : Bool} → Decided (Renews (length (t .slopes)) (c .point) i) b
+          → entry (u .slopes) i ≡ cond b (builtSlope (changedBy c t .knots) (changedBy c t .values) i) (entry (t .slopes) i)
+      at i l (holds r) =
+          one-slope within i (omega (arith, in-knots i l, j .as-many-knots)) (j .renewed-slopes i (in-knots i l) (subst (λ (n : ℕ). Renews n (c .point) i) as-long r)) (right-slope within i)
           ∙ ap₂ (λ (ks vs : List ℤ). builtSlope ks vs i) knots-so values-so
-      at i l false b = j .other-slopes i (in-knots i l) (beside-far (c .point) i b)
+      at i l (fails f) = j .other-slopes i (in-knots i l) (λ r. f (subst (λ (n : ℕ). Renews n (c .point) i) (sym as-long) r))
 
 -- ======== NOTHING ELSE: what comes out of a call of an implementation that meets the demands is what ours promises
 

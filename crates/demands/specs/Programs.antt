@@ -98,15 +98,15 @@ module _ {I : Implementation} (d : Demand1 I) (call : Call) (o : Outcome call) (
 
 -- ---- tables
 
--- "points (0,0), (3,−10) have slopes −853, −853", "(0,0), (1,1), (2,4) have slopes 256, 384, 768", and "(0,0), (1,1), (2,4), (3,7) have slopes 256, 384, 768, 768"
+-- "points (0,0), (3,−10) have slopes −853, −853"; and, by request 2 of document 02, "points (0,0), (1,1), (2,4) now have slopes 0, 384, 1024", and "(0,0), (1,1), (2,4), (3,7) have 0, 384, 768, 768"
 abbrev pub two : Table
 two = table (pos 0 ∷ pos 3 ∷ []) (pos 0 ∷ negsuc 9 ∷ []) (negsuc 852 ∷ negsuc 852 ∷ [])
 
 abbrev pub three : Table
-three = table (pos 0 ∷ pos 1 ∷ pos 2 ∷ []) (pos 0 ∷ pos 1 ∷ pos 4 ∷ []) (pos 256 ∷ pos 384 ∷ pos 768 ∷ [])
+three = table (pos 0 ∷ pos 1 ∷ pos 2 ∷ []) (pos 0 ∷ pos 1 ∷ pos 4 ∷ []) (pos 0 ∷ pos 384 ∷ pos 1024 ∷ [])
 
 abbrev pub four : Table
-four = table (pos 0 ∷ pos 1 ∷ pos 2 ∷ pos 3 ∷ []) (pos 0 ∷ pos 1 ∷ pos 4 ∷ pos 7 ∷ []) (pos 256 ∷ pos 384 ∷ pos 768 ∷ pos 768 ∷ [])
+four = table (pos 0 ∷ pos 1 ∷ pos 2 ∷ pos 3 ∷ []) (pos 0 ∷ pos 1 ∷ pos 4 ∷ pos 7 ∷ []) (pos 0 ∷ pos 384 ∷ pos 768 ∷ pos 768 ∷ [])
 
 pub two-within : PointsWithin (two .knots) (two .values)
 two-within = points-by-test _ _ refl (count tt tt) tt

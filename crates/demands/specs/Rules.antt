@@ -1,18 +1,19 @@
--- The slopes that are built keep the two rules, which say what a slope is and not how it is worked out.
+-- The slopes that are built keep the rules, which say what a slope is and not how it is worked out.
 use mathlib.Core.Logic.{⊎-elim}
 use mathlib.Core.Path.{_≡_, refl, sym, _∙_, ap, subst}
 use Prim.Native.Nat.{zero, suc}
 use lib.IntN.{ℤ, pos, negsuc, _*ℤ_, *ℤ-comm}
 use lib.Signed.{_≤ℤ_, _<ℤ_, ltZ-yes, ≤ℤ-refl}
 use Rattle.integers.specs.Promise.{Floor, floorOf, magnitude, withSign}
-use Rattle.integers.specs.Order.{signs, positives, <ℤ→≤ℤ}
+use Rattle.integers.specs.Order.{signs, positives, <ℤ→≤ℤ, ≤ℤ-or-<ℤ}
 use Rattle.integers.specs.Signs.{0<-magnitude, by-sign}
 use Rattle.integers.specs.Division.{floor-of, floor-unique, 0≤-floor, toward-scaled}
 use Rattle.integers.specs.Decided.{<ℤ-or-not}
 use Rattle.cubic.specs.Piece.{unit}
-use Rattle.cubic.specs.Slopes.{endSlope, meanAbove, meanBelow, innerSlope}
+use Rattle.cubic.specs.Slopes.{inUnits, endSlope, meanAbove, meanBelow, innerSlope}
+use Rattle.cubic.specs.End.{0<-endBelow, end-level, end-bounded, end-unbounded}
 use Rattle.cubic.specs.Inner.{inner-level, inner-steep}
-use Rattle.demands.specs.Demands.{EndRule, MeanRule}
+use Rattle.demands.specs.Demands.{InUnits, endAbove, endBelow, EndRule, MeanRule}
 
 signed-size : (z f : ℤ) → pos 0 ≤ℤ f → magnitude (withSign z f) ≡ f
 signed-size (pos n) (pos f) l = refl
@@ -31,11 +32,19 @@ module _ (z n d : ℤ) {s : ℤ} (n₀ : pos 0 ≤ℤ n) (d₀ : pos 0 <ℤ d) (
   its-sign : s ≡ withSign z (magnitude s)
   its-sign = e ∙ ap (withSign z) (sym size-is)
 
-pub end-rule : {h : ℤ} (z : ℤ) → pos 0 <ℤ h → EndRule h z (endSlope unit h z)
-end-rule {h} z h₀ =
-    let e = toward-scaled {k = unit} (ltZ-yes tt) z h in
-    let n₀ : pos 0 ≤ℤ (unit *ℤ magnitude z) = search signs in
-    record { size = its-size z (unit *ℤ magnitude z) h n₀ h₀ e; sign = its-sign z (unit *ℤ magnitude z) h n₀ h₀ e }
+pub in-units : {d : ℤ} (n : ℤ) → pos 0 <ℤ d → InUnits n d (inUnits unit n d)
+in-units {d} n d₀ =
+    let e = toward-scaled {k = unit} (ltZ-yes tt) n d in
+    let n₀ : pos 0 ≤ℤ (unit *ℤ magnitude n) = search signs in
+    record { size = its-size n (unit *ℤ magnitude n) d n₀ d₀ e; sign = its-sign n (unit *ℤ magnitude n) d n₀ d₀ e }
+
+pub end-rule : {h₁ h₂ : ℤ} (z₁ z₂ : ℤ) → pos 0 <ℤ h₁ → pos 0 <ℤ h₂ → EndRule h₁ z₁ h₂ z₂ (endSlope unit h₁ z₁ h₂ z₂)
+end-rule {h₁} {h₂} z₁ z₂ p q =
+    record {
+      zero-or-opposed = λ l. sym (end-level unit h₁ z₁ h₂ z₂ l);
+      beyond-the-bound = λ a b c. subst (InUnits (withSign z₁ (pos 3 *ℤ magnitude z₁)) h₁) (end-bounded unit h₁ z₁ h₂ z₂ a b c) (in-units _ p);
+      otherwise = λ a f. subst (InUnits (endAbove h₁ z₁ h₂ z₂) (endBelow h₁ h₂)) (end-unbounded unit h₁ z₁ h₂ z₂ a f) (in-units _ (0<-endBelow p q));
+    }
 
 -- what stands below the mean's line is above 0
 both-sizes : (z₁ z₂ : ℤ) → pos 0 <ℤ (z₁ *ℤ z₂) → (pos 0 <ℤ magnitude z₁) × (pos 0 <ℤ magnitude z₂)
@@ -73,8 +82,23 @@ mean-rule {h₁} {h₂} z₁ z₂ p q =
 
 -- ---- and each rule admits one slope only
 
-pub one-end : {h z s r : ℤ} → pos 0 <ℤ h → EndRule h z s → EndRule h z r → s ≡ r
-one-end {z = z} h₀ a b = a .sign ∙ ap (withSign z) (floor-unique h₀ (a .size) (b .size)) ∙ sym (b .sign)
+pub one-in-units : {n d s r : ℤ} → pos 0 <ℤ d → InUnits n d s → InUnits n d r → s ≡ r
+one-in-units {n = n} d₀ a b = a .sign ∙ ap (withSign n) (floor-unique d₀ (a .size) (b .size)) ∙ sym (b .sign)
+
+pub one-end : {h₁ z₁ h₂ z₂ s r : ℤ} → pos 0 <ℤ h₁ → pos 0 <ℤ h₂ → EndRule h₁ z₁ h₂ z₂ s → EndRule h₁ z₁ h₂ z₂ r → s ≡ r
+one-end {h₁} {z₁} {h₂} {z₂} {s} {r} p q a b = ⊎-elim (λ l. a .zero-or-opposed l ∙ sym (b .zero-or-opposed l)) steep (≤ℤ-or-<ℤ (endAbove h₁ z₁ h₂ z₂ *ℤ z₁) (pos 0))
+  where
+    steep : pos 0 <ℤ (endAbove h₁ z₁ h₂ z₂ *ℤ z₁) → s ≡ r
+    steep l = ⊎-elim within beyond (≤ℤ-or-<ℤ (magnitude (endAbove h₁ z₁ h₂ z₂) *ℤ h₁) (pos 3 *ℤ magnitude z₁ *ℤ endBelow h₁ h₂))
+      where
+        plain : ((z₁ *ℤ z₂) <ℤ pos 0 → (magnitude (endAbove h₁ z₁ h₂ z₂) *ℤ h₁) ≤ℤ (pos 3 *ℤ magnitude z₁ *ℤ endBelow h₁ h₂)) → s ≡ r
+        plain f = one-in-units (0<-endBelow p q) (a .otherwise l f) (b .otherwise l f)
+
+        within : (magnitude (endAbove h₁ z₁ h₂ z₂) *ℤ h₁) ≤ℤ (pos 3 *ℤ magnitude z₁ *ℤ endBelow h₁ h₂) → s ≡ r
+        within m = plain (λ _. m)
+
+        beyond : (pos 3 *ℤ magnitude z₁ *ℤ endBelow h₁ h₂) <ℤ (magnitude (endAbove h₁ z₁ h₂ z₂) *ℤ h₁) → s ≡ r
+        beyond m = ⊎-elim (λ o. one-in-units p (a .beyond-the-bound l o m) (b .beyond-the-bound l o m)) (λ f. plain (λ o. absurd (f o))) (<ℤ-or-not (z₁ *ℤ z₂) (pos 0))
 
 pub one-mean : {h₁ z₁ h₂ z₂ s r : ℤ} → pos 0 <ℤ h₁ → pos 0 <ℤ h₂ → MeanRule h₁ z₁ h₂ z₂ s → MeanRule h₁ z₁ h₂ z₂ r → s ≡ r
 one-mean {z₁ = z₁} {z₂ = z₂} p q a b = ⊎-elim (λ t. a .sign t ∙ ap (withSign z₁) (floor-unique (0<-below z₁ z₂ p q t) (a .size t) (b .size t)) ∙ sym (b .sign t)) (λ f. a .apart (at-most f) ∙ sym (b .apart (at-most f))) (<ℤ-or-not (pos 0) (z₁ *ℤ z₂))

@@ -1,12 +1,10 @@
 -- What the demands say of single cases: two counts at opposite ends of 32 bits, and the slope at a point. `Values.antt` has the value on a piece.
-use mathlib.Core.Path.{_≡_, refl, sym, _∙_, ap, subst}
-use mathlib.Core.Bool.{Bool, true, false, not}
-use mathlib.Core.Logic.{_⊎_, inl, inr}
+use mathlib.Core.Path.{_≡_, _∙_, ap, ap₂, subst}
 use mathlib.Core.List.{List, [], _∷_}
-use Prim.Native.Nat.{ℕ, _+_, _-_, _<_, _≤_}
+use Prim.Native.Nat.{ℕ, _+_, _-_, _<_}
 use native.Mathlib.Omega.{arith}
-use lib.Dec.{T, leb, leb→le, nleb→lt}
-use lib.IntN.{ℤ}
+use lib.IntN.{ℤ, pos}
+use lib.Signed.{_<ℤ_}
 use lib.ListN.{length}
 use Rattle.rules.specs.Known.{0<-width}
 use Rattle.rules.specs.Refusals.{Given}
@@ -14,14 +12,14 @@ use Rattle.rules.specs.Order.{stopped}
 use Rattle.table.specs.Table.{step, Holds, buildOrder, checkOrder}
 use Rattle.table.specs.Accepted.{PointsWithin}
 use Rattle.slopes.specs.Slopes.{innerAt, endAt, builtSlope}
-use Rattle.slopes.specs.Cases.{first-slope, inner-slope, last-slope}
+use Rattle.slopes.specs.Cases.{slope-of-two, first-slope, inner-slope, last-slope}
 use Rattle.slopes.specs.Figures.{ends-of-32-bits-are-refused}
 use Rattle.position.specs.Position.{HoldsAt, evaluationOrder}
 use Rattle.position.specs.Refused.{as-checked}
 use Rattle.drive.specs.Drive.{HoldsFor, floatOrder}
 use Rattle.drive.specs.Refused.{as-evaluated}
-use Rattle.demands.specs.Demands.{opposite-ends, EndRule, MeanRule, RightSlope}
-use Rattle.demands.specs.Rules.{end-rule, mean-rule}
+use Rattle.demands.specs.Demands.{opposite-ends, InUnits, EndRule, MeanRule, RightSlope}
+use Rattle.demands.specs.Rules.{in-units, end-rule, mean-rule}
 
 -- ---- two counts at opposite ends of 32 bits
 
@@ -41,30 +39,25 @@ module _ (v w m n : ℤ) where
 -- ---- the slope that a build gives a point keeps its rule
 
 pub right-slope : {ks vs : List ℤ} → PointsWithin ks vs → (i : ℕ) → RightSlope ks vs i (builtSlope ks vs i)
-right-slope {ks} {vs} p i = record { first = first; inner = inner; last = last }
+right-slope {ks} {vs} p i = record { of-two = of-two; first = first; inner = inner; last = last }
   where
-    first : i ≡ 0 → EndRule (step ks 0) (step vs 0) (builtSlope ks vs i)
-    first e = subst (EndRule (step ks 0) (step vs 0)) (first-slope ks vs i e) (end-rule (step vs 0) (0<-width (p .widths 0 (omega (arith, p .count .low)))))
+    width : (j : ℕ) → j + 1 < length ks → pos 0 <ℤ step ks j
+    width j l = 0<-width (p .widths j l)
 
-    before : (j : ℕ) → i ≡ j + 1 → j ≡ i - 1
-    before j e = omega arith
+    of-two : length ks ≡ 2 → InUnits (step vs 0) (step ks 0) (builtSlope ks vs i)
+    of-two n = subst (InUnits (step vs 0) (step ks 0)) (slope-of-two ks vs i (omega arith)) (in-units (step vs 0) (width 0 (omega arith)))
+
+    first : i ≡ 0 → 2 < length ks → EndRule (step ks 0) (step vs 0) (step ks 1) (step vs 1) (builtSlope ks vs i)
+    first e n = subst (EndRule (step ks 0) (step vs 0) (step ks 1) (step vs 1)) (first-slope ks vs i e n) (end-rule (step vs 0) (step vs 1) (width 0 (omega arith)) (width 1 (omega arith)))
 
     inner : (j : ℕ) → i ≡ j + 1 → i + 1 < length ks → MeanRule (step ks j) (step vs j) (step ks i) (step vs i) (builtSlope ks vs i)
     inner j e l =
         subst (MeanRule (step ks j) (step vs j) (step ks i) (step vs i))
-        (ap (λ (k : ℕ). innerAt ks vs k i) (before j e) ∙ inner-slope ks vs i (λ (z : i ≡ 0). omega arith) l)
-        (mean-rule (step vs j) (step vs i) (0<-width (p .widths j (omega arith))) (0<-width (p .widths i l)))
+        (ap (λ (k : ℕ). innerAt ks vs k i) {x = j} {y = i - 1} (omega arith) ∙ inner-slope ks vs i (omega arith) l)
+        (mean-rule (step vs j) (step vs i) (width j (omega arith)) (width i l))
 
-    last : (j : ℕ) → i ≡ j + 1 → i + 1 ≡ length ks → EndRule (step ks j) (step vs j) (builtSlope ks vs i)
+    last : (j : ℕ) → i ≡ j + 2 → i + 1 ≡ length ks → EndRule (step ks (j + 1)) (step vs (j + 1)) (step ks j) (step vs j) (builtSlope ks vs i)
     last j e l =
-        subst (EndRule (step ks j) (step vs j)) (ap (endAt ks vs) (before j e) ∙ last-slope ks vs i (λ (z : i ≡ 0). omega arith) (omega arith))
-        (end-rule (step vs j) (0<-width (p .widths j (omega arith))))
-
--- ---- a number is below another or not
-
-pub less-or-not : (m n : ℕ) → (m < n) ⊎ (n ≤ m)
-less-or-not m n = told (leb n m) refl
-  where
-    told : (b : Bool) → leb n m ≡ b → (m < n) ⊎ (n ≤ m)
-    told true t = inr (leb→le n m (subst T (sym t) tt))
-    told false t = inl (nleb→lt n m (subst (λ (b : Bool). T (not b)) (sym t) tt))
+        subst (EndRule (step ks (j + 1)) (step vs (j + 1)) (step ks j) (step vs j))
+        (ap₂ (endAt ks vs) {x = j + 1} {y = i - 1} {u = j} {v = i - 2} (omega arith) (omega arith) ∙ last-slope ks vs i (omega arith) (omega arith))
+        (end-rule (step vs (j + 1)) (step vs j) (width (j + 1) (omega arith)) (width j (omega arith)))

@@ -1,4 +1,4 @@
--- "The sixteen cases marked P are proved together as a single list with a single statement": what an implementation answers in each. The last is as request 6 of document 02 amends it. This file has no proof;
+-- "The sixteen cases marked P are proved together as a single list with a single statement": what an implementation answers in each. The first two lists of slopes are as request 2 of document 02 amends them, and the last case as request 6 does. This file has no proof;
 -- `SixteenGiven.antt` shows that ours gives them. `Demands.antt` says how to read it.
 use mathlib.Core.Path.{_≡_}
 use mathlib.Core.List.{List, [], _∷_}
@@ -30,8 +30,8 @@ sixteen =
     ∷ piece (pos 1) (pos 0) (pos 1) (negsuc 0) bends
     ∷ piece (pos 1) (negsuc 0) (negsuc 767) (negsuc 767) falling
     ∷ piece (pos 2) (pos 1) (pos 384) (pos 384) rising
-    ∷ slopes (pos 0 ∷ pos 1 ∷ pos 2 ∷ []) (pos 0 ∷ pos 1 ∷ pos 4 ∷ []) (pos 256 ∷ pos 384 ∷ pos 768 ∷ [])
-    ∷ slopes (pos 0 ∷ pos 1 ∷ pos 3 ∷ []) (pos 0 ∷ pos 1 ∷ pos 2 ∷ []) (pos 256 ∷ pos 177 ∷ pos 128 ∷ [])
+    ∷ slopes (pos 0 ∷ pos 1 ∷ pos 2 ∷ []) (pos 0 ∷ pos 1 ∷ pos 4 ∷ []) (pos 0 ∷ pos 384 ∷ pos 1024 ∷ [])
+    ∷ slopes (pos 0 ∷ pos 1 ∷ pos 3 ∷ []) (pos 0 ∷ pos 1 ∷ pos 2 ∷ []) (pos 298 ∷ pos 177 ∷ pos 42 ∷ [])
     ∷ slopes (pos 0 ∷ pos 3 ∷ []) (pos 0 ∷ negsuc 9 ∷ []) (negsuc 852 ∷ negsuc 852 ∷ [])
     ∷ value (pos 0 ∷ pos 3 ∷ []) (pos 0 ∷ negsuc 9 ∷ []) (pos 1) (negsuc 2)
     ∷ []

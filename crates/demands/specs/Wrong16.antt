@@ -15,6 +15,7 @@ use Rattle.demands.specs.Demands.{Implementation}
 use Rattle.demands.specs.Sixteen.{Case, Gives, All, none, _&_, TheSixteen}
 use Rattle.demands.specs.Refuting.{numbers-differ}
 use Rattle.demands.specs.Programs.{outcome, answering, another-judge, two, two-built, three-within, at-1, minus-three, ByThePaper, turned-away, not-by-less}
+use Rattle.demands.specs.WrongEnds.{at-the-first, secant}
 use Rattle.demands.specs.Wrong2.{BySigns, leaving, idle-afterwards, valued-by, rounded-by, nearest-toward-zero}
 
 -- what case i of a list says
@@ -44,11 +45,17 @@ not-by-the-papers-less s = numbers-differ tt (ap numbered (case (s .each-is-give
 pub not-by-the-signs : TheSixteen (answering (another-judge BySigns)) → ⊥
 not-by-the-signs s = numbers-differ tt (ap numbered (case (s .each-is-given) 4 .1 (outcome 0 0 rising tt) (BySigns.accepted (ltZ-yes tt) (leZ-yes tt) (leZ-yes tt)) .2))
 
--- the thirteenth: (0,0), (1,1), (2,4) have the slopes 256, 384, 768
+-- the thirteenth: (0,0), (1,1), (2,4) have the slopes 0, 384, 1024
 pub not-by-an-idle-builder : TheSixteen (answering (leaving idle-afterwards)) → ⊥
 not-by-an-idle-builder s =
     let before = pos 0 ∷ pos 0 ∷ pos 0 ∷ [] in
-    numbers-differ tt (ap (λ (slopes : List ℤ). entry slopes 1) (case (s .each-is-given) 12 before refl .1 (outcome 0 0 tt (pos 256 ∷ pos 0 ∷ pos 0 ∷ [])) (points-accepted three-within refl, refl) .2))
+    numbers-differ tt (ap (λ (slopes : List ℤ). entry slopes 1) (case (s .each-is-given) 12 before refl .1 (outcome 0 0 tt (pos 0 ∷ pos 0 ∷ pos 0 ∷ [])) (points-accepted three-within refl, refl) .2))
+
+-- and so not by the rule that document 01 had at the ends
+pub not-by-the-old-end-rule : TheSixteen (answering (at-the-first secant)) → ⊥
+not-by-the-old-end-rule s =
+    let before = pos 0 ∷ pos 0 ∷ pos 0 ∷ [] in
+    numbers-differ tt (ap (λ (slopes : List ℤ). entry slopes 0) (case (s .each-is-given) 12 before refl .1 (outcome 0 0 tt (pos 256 ∷ pos 384 ∷ pos 1024 ∷ [])) (points-accepted three-within refl, refl) .2))
 
 -- the last: (0,0), (3,−10) have −3 at position 1, and not −4 or −2
 at-the-last : (round : ℤ → ℤ → ℤ) → TheSixteen (answering (valued-by (rounded-by round))) → pos 0 +ℤ round (numerator unit (pos 3) (negsuc 9) (negsuc 852) (negsuc 852) (pos 1)) (denominator unit (pos 3)) ≡ negsuc 2

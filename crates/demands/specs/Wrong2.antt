@@ -115,7 +115,7 @@ pub built-tables-bend-too : Demand2 (answering (another-check (λ t o. o ≡ out
 built-tables-bend-too d =
     absurd (omega (arith, d .get-a-yes-always {t = two} {o = outcome 0 0 tt (two .slopes)} {p = outcome 5 0 tt tt} (two-built (two .slopes) refl) refl refl))
 
--- ======== "Slopes you build are Fritsch and Butland's mean at inner points and document 01's rule at the two ends, in its units"
+-- ======== "Slopes you build are Fritsch and Butland's mean at inner points and document 01's rule at the two ends, in its units", as request 2 of document 02 amends that rule
 
 -- a builder that refuses as ours does, and where it does not leaves these slopes
 abbrev pub leaving : (Table → List ℤ) → (call : Call) → Outcome call → Type 0
@@ -125,8 +125,8 @@ leaving slopes = another-build (λ t o. Given (Holds t) buildOrder (o .number) (
 abbrev pub but-at : ℕ → (Table → ℤ) → Table → List ℤ
 but-at i slope t = set (builtSlopes (t .knots) (t .values)) i (slope t)
 
--- what such a builder leaves of points that are within the limits is to have the right slopes
-left : {slopes : Table → List ℤ} → Demand2 (answering (leaving slopes)) → (t : Table) → PointsWithin (t .knots) (t .values) → length (t .slopes) ≡ length (t .knots) → RightSlopes (t .knots) (t .values) (slopes t)
+-- what such a builder leaves of points that are within the limits is to have the right slopes; what is wrong at the ends stands in `WrongEnds.antt`
+pub left : {slopes : Table → List ℤ} → Demand2 (answering (leaving slopes)) → (t : Table) → PointsWithin (t .knots) (t .values) → length (t .slopes) ≡ length (t .knots) → RightSlopes (t .knots) (t .values) (slopes t)
 left {slopes} d t p l = d .slopes-you-build {t = t} {o = outcome 0 0 tt (slopes t)} (points-accepted p l, refl) refl
 
 abbrev at-rest : List ℤ
@@ -143,20 +143,17 @@ pub a-builder-idle-after-its-first-point : Demand2 (answering (leaving idle-afte
 a-builder-idle-after-its-first-point d = left d three-at-rest three-within refl .each 1 (lit< tt) .inner 0 refl (lit< tt) .size (ltZ-yes tt) .high .lt
 
 pub a-builder-idle-at-its-last-point : Demand2 (answering (leaving (but-at 2 (λ t. entry (t .slopes) 2)))) → ⊥
-a-builder-idle-at-its-last-point d = left d three-at-rest three-within refl .each 2 (lit< tt) .last 1 refl refl .size .high .lt
+a-builder-idle-at-its-last-point d = left d three-at-rest three-within refl .each 2 (lit< tt) .last 0 refl refl .otherwise (ltZ-yes tt) (λ l. absurd (l .lt)) .size .high .lt
 
 pub a-builder-idle-at-its-first-point : Demand2 (answering (leaving (but-at 0 (λ t. entry (t .slopes) 0)))) → ⊥
-a-builder-idle-at-its-first-point d = left d three-at-rest three-within refl .each 0 (lit< tt) .first refl .size .high .lt
+a-builder-idle-at-its-first-point d = left d even-at-rest (points-by-test _ _ refl (count tt tt) tt) refl .each 0 (lit< tt) .first refl (lit< tt) .otherwise (ltZ-yes tt) (λ l. absurd (l .lt)) .size .high .lt
+  where
+    -- (0,0), (1,1), (2,2), whose first slope is 256
+    even-at-rest : Table
+    even-at-rest = table (three .knots) (pos 0 ∷ pos 1 ∷ pos 2 ∷ []) at-rest
 
 pub a-builder-that-leaves-a-slope-out : Demand2 (answering (leaving (λ t. []))) → ⊥
 a-builder-that-leaves-a-slope-out d = absurd (omega (arith, left d three-at-rest three-within refl .as-many))
-
--- (0,0), (3,−10): an end slope rounded down, −854; and one without its sign, 853
-pub an-end-slope-rounded-down : Demand2 (answering (leaving (but-at 0 (λ t. floorOf (unit *ℤ step (t .values) 0) (step (t .knots) 0))))) → ⊥
-an-end-slope-rounded-down d = left d two two-within refl .each 0 (lit< tt) .first refl .size .low .le
-
-pub an-end-slope-without-its-sign : Demand2 (answering (leaving (but-at 0 (λ t. floorOf (unit *ℤ magnitude (step (t .values) 0)) (step (t .knots) 0))))) → ⊥
-an-end-slope-without-its-sign d = numbers-differ tt (left d two two-within refl .each 0 (lit< tt) .first refl .sign)
 
 -- at an inner point a mean of two units for three, (0,0), (1,1), (2,4): 256
 pub a-mean-of-two-units : Demand2 (answering (leaving (but-at 1 (λ t. floorOf (pos 2 *ℤ unit *ℤ (step (t .knots) 0 +ℤ step (t .knots) 1) *ℤ step (t .values) 0 *ℤ step (t .values) 1) (meanBelow (step (t .knots) 0) (step (t .values) 0) (step (t .knots) 1) (step (t .values) 1)))))) → ⊥
@@ -300,7 +297,7 @@ a-mirrored-cubic d = numbers-differ tt (the-same (plus mirrored) d steep-within 
     vs = pos 0 ∷ pos 4 ∷ pos 400 ∷ []
 
     ss : List ℤ
-    ss = pos 256 ∷ pos 506 ∷ pos 25344 ∷ []
+    ss = pos 0 ∷ pos 506 ∷ pos 37888 ∷ []
 
     steep-within : PointsWithin ks vs
     steep-within = points-by-test _ _ refl (count tt tt) tt

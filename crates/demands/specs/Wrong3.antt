@@ -2,12 +2,12 @@
 use mathlib.Core.Path.{_≡_, refl, ap}
 use mathlib.Core.Logic.{inr, ⊎-elim}
 use mathlib.Core.List.{List, [], _∷_, _++_}
-use Prim.Native.Nat.{ℕ, zero, suc, _-_}
+use Prim.Native.Nat.{ℕ, zero, suc, _+_, _-_, min}
 use native.Mathlib.Omega.{arith}
 use lib.Dec.{lit<, lit≤}
 use lib.IntN.{ℤ, pos}
 use lib.Signed.{ltZ-yes}
-use lib.ListN.{set}
+use lib.ListN.{length, set}
 use Rattle.table.specs.declared.changed.Change.{Change}
 use Rattle.table.specs.Table.{Table, table, entry}
 use Rattle.table.specs.Accepted.{points-accepted}
@@ -15,10 +15,11 @@ use Rattle.table.specs.Tested.{points-by-test}
 use Rattle.table.specs.WouldBe.{changedBy}
 use Rattle.table.specs.AfterChange.{as-changed}
 use Rattle.slopes.specs.Slopes.{builtSlopes}
-use Rattle.change.specs.Change.{Changed}
+use Rattle.slopes.specs.Put.{put}
+use Rattle.change.specs.Change.{Renews, before-it, at-it, behind-it, slope-0, the-last, Changed}
 use Rattle.change.specs.Figures.{point-1-moved-onto-point-2}
 use Rattle.demands.specs.Demands.{Call, point, Outcome, none, next, JustThis, Demand3}
-use Rattle.demands.specs.SixteenGiven.{count}
+use Rattle.demands.specs.SixteenGiven.{count, has-slopes}
 use Rattle.demands.specs.Refuting.{numbers-differ}
 use Rattle.demands.specs.Programs.{outcome, answering, another-point, four, four-built, lowering, lowered, lowered-within, is-lowered, lowered-built}
 
@@ -36,21 +37,30 @@ to-be left d made c t {u} changed = d .each-accepted-change-does-just-this {made
 
 -- ---- changes of (0,0), (1,1), (2,4), (3,7)
 
--- point 1 raised to (1,2), and point 3 moved to (4,7)
+-- point 1 raised to (1,2), point 2 lowered to (2,2), and point 3 moved to (4,7)
 abbrev raising : Change
 raising = record { point = 1; knot = pos 1; value = pos 2 }
 
 abbrev raised : Table
-raised = table (four .knots) (pos 0 ∷ pos 2 ∷ pos 4 ∷ pos 7 ∷ []) (pos 512 ∷ pos 512 ∷ pos 614 ∷ pos 768 ∷ [])
+raised = table (four .knots) (pos 0 ∷ pos 2 ∷ pos 4 ∷ pos 7 ∷ []) (pos 512 ∷ pos 512 ∷ pos 614 ∷ pos 896 ∷ [])
 
 is-raised : Changed raising four raised 0 0
 is-raised = record { refusal = as-changed raising four (lit< tt) (points-accepted (points-by-test (raised .knots) (raised .values) refl (count tt tt) tt) refl); knots = refl; values = refl; slopes = refl }
+
+abbrev sinking : Change
+sinking = record { point = 2; knot = pos 2; value = pos 2 }
+
+abbrev sunk : Table
+sunk = table (four .knots) (pos 0 ∷ pos 1 ∷ pos 2 ∷ pos 7 ∷ []) (pos 256 ∷ pos 256 ∷ pos 426 ∷ pos 1792 ∷ [])
+
+is-sunk : Changed sinking four sunk 0 0
+is-sunk = record { refusal = as-changed sinking four (lit< tt) (points-accepted (points-by-test (sunk .knots) (sunk .values) refl (count tt tt) tt) refl); knots = refl; values = refl; slopes = refl }
 
 abbrev moving : Change
 moving = record { point = 3; knot = pos 4; value = pos 7 }
 
 abbrev moved : Table
-moved = table (pos 0 ∷ pos 1 ∷ pos 2 ∷ pos 4 ∷ []) (four .values) (pos 256 ∷ pos 384 ∷ pos 531 ∷ pos 384 ∷ [])
+moved = table (pos 0 ∷ pos 1 ∷ pos 2 ∷ pos 4 ∷ []) (four .values) (pos 0 ∷ pos 384 ∷ pos 531 ∷ pos 128 ∷ [])
 
 is-moved : Changed moving four moved 0 0
 is-moved = record { refusal = as-changed moving four (lit< tt) (points-accepted (points-by-test (moved .knots) (moved .values) refl (count tt tt) tt) refl); knots = refl; values = refl; slopes = refl }
@@ -83,13 +93,33 @@ abbrev pub its-slope-alone : List Change → Change → (before ours : Table) �
 its-slope-alone made c t u = table (u .knots) (u .values) (set (t .slopes) (c .point) (entry (u .slopes) (c .point)))
 
 pub only-the-changed-points-slope-renewed : Demand3 (answering (leaving its-slope-alone)) → ⊥
-only-the-changed-points-slope-renewed d = to-be its-slope-alone d [] lowering four is-lowered .slopes-near 1 (lit< tt) (record { before = lit≤ tt; behind = lit≤ tt }) .inner 0 refl (lit< tt) .size (ltZ-yes tt) .high .lt
+only-the-changed-points-slope-renewed d = to-be its-slope-alone d [] lowering four is-lowered .renewed-slopes 1 (lit< tt) (behind-it refl) .inner 0 refl (lit< tt) .size (ltZ-yes tt) .high .lt
 
 abbrev pub the-old-slope-before-it : List Change → Change → (before ours : Table) → Table
 the-old-slope-before-it made c t u = table (u .knots) (u .values) (set (u .slopes) (c .point - 1) (entry (t .slopes) (c .point - 1)))
 
 pub the-slope-before-it-not-renewed : Demand3 (answering (leaving the-old-slope-before-it)) → ⊥
-the-slope-before-it-not-renewed d = to-be the-old-slope-before-it d [] raising four is-raised .slopes-near 0 (lit< tt) (record { before = lit≤ tt; behind = lit≤ tt }) .first refl .size .high .lt
+the-slope-before-it-not-renewed d = to-be the-old-slope-before-it d [] raising four is-raised .renewed-slopes 0 (lit< tt) (before-it refl) .first refl (lit< tt) .otherwise (ltZ-yes tt) (λ l. absurd (l .lt)) .size .high .lt
+
+-- ======== "a change of point 2 also renews slope 0, and a change of the third point from the end also renews the last slope"
+
+-- a change that renews the slopes at the point and beside it alone, as it was right until request 2: of point 2 it leaves slope 0, and of point 1, the third of four from the end, the last
+abbrev pub these-three-alone : List Change → Change → (before ours : Table) → Table
+these-three-alone made c t u = table (u .knots) (u .values) (put (entry (u .slopes)) (c .point - 1) (min (c .point + 2) (length (t .slopes)) - (c .point - 1)) (t .slopes))
+
+pub slope-0-left-by-a-change-of-point-2 : Demand3 (answering (leaving these-three-alone)) → ⊥
+slope-0-left-by-a-change-of-point-2 d = to-be these-three-alone d [] sinking four is-sunk .renewed-slopes 0 (lit< tt) (slope-0 refl refl) .first refl (lit< tt) .otherwise (ltZ-yes tt) (λ l. absurd (l .lt)) .size .high .lt
+
+pub the-last-slope-left-by-a-change-of-the-third-point-from-the-end : Demand3 (answering (leaving these-three-alone)) → ⊥
+the-last-slope-left-by-a-change-of-the-third-point-from-the-end d =
+    to-be these-three-alone d [] raising four is-raised .renewed-slopes 3 (lit< tt) (the-last refl refl) .last 1 refl refl .otherwise (ltZ-yes tt) (λ l. absurd (l .lt)) .size .high .lt
+
+-- and so it does not leave what a build does
+pub slopes-at-the-ends-that-are-not-those-built-afresh : Demand3 (answering (leaving these-three-alone)) → ⊥
+slopes-at-the-ends-that-are-not-those-built-afresh d =
+    let left = these-three-alone [] sinking four sunk in
+    numbers-differ tt (ap (λ (slopes : List ℤ). entry slopes 0) (d .the-slopes-equal-those-built-afresh {t = four} {o = outcome 0 0 tt (four .slopes)} {changes = sinking ∷ []} {u = left} {again = four .slopes} {p = outcome 0 0 tt (sunk .slopes)}
+    (four-built (four .slopes) refl) refl (next {o = outcome 0 0 tt left} (sunk, (is-sunk, refl)) none) refl (has-slopes (points-by-test _ _ refl (count tt tt) tt) refl refl) .1))
 
 abbrev pub the-last-knot-too : List Change → Change → (before ours : Table) → Table
 the-last-knot-too made c t u = table (set (u .knots) 3 (pos 9)) (u .values) (u .slopes)
@@ -108,10 +138,17 @@ abbrev pub every-slope : List Change → Change → (before ours : Table) → Ta
 every-slope made c t u = table (u .knots) (u .values) (builtSlopes (u .knots) (u .values))
 
 pub every-slope-renewed : Demand3 (answering (leaving every-slope)) → ⊥
-every-slope-renewed d = numbers-differ tt (to-be every-slope d [] lowering foreign changed .other-slopes 3 (lit< tt) (λ n. omega (arith, n .behind)))
+every-slope-renewed d = numbers-differ tt (to-be every-slope d [] lowering foreign changed .other-slopes 3 (lit< tt) not-that-one)
   where
+    not-that-one : Renews 4 0 3 → ⊥
+    not-that-one (before-it e) = absurd (omega (arith, e))
+    not-that-one (at-it e) = absurd (omega (arith, e))
+    not-that-one (behind-it e) = absurd (omega (arith, e))
+    not-that-one (slope-0 e f) = absurd (omega (arith, e))
+    not-that-one (the-last e f) = absurd (omega (arith, e))
+
     foreign : Table
-    foreign = table (four .knots) (four .values) (pos 256 ∷ pos 384 ∷ pos 768 ∷ pos 1 ∷ [])
+    foreign = table (four .knots) (four .values) (pos 0 ∷ pos 384 ∷ pos 768 ∷ pos 1 ∷ [])
 
     changed : Changed lowering foreign (table (lowered .knots) (lowered .values) (pos 768 ∷ pos 768 ∷ pos 768 ∷ pos 1 ∷ [])) 0 0
     changed = record { refusal = as-changed lowering foreign (lit< tt) (points-accepted lowered-within refl); knots = refl; values = refl; slopes = refl }

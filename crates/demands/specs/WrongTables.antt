@@ -186,34 +186,60 @@ the-first-slope-left-as-it-was p = lists-differ tt (p .slopes)
 pub the-last-slope-left-as-it-was : Builds (table 0-1 0-1 0-0) 0 0 (pos 256 ∷ pos 0 ∷ []) → ⊥
 the-last-slope-left-as-it-was p = lists-differ tt (p .slopes)
 
-pub the-last-inner-slope-left-as-it-was : Builds (table 0-1-2-3 0-1-4-7 0-0-0-0) 0 0 (pos 256 ∷ pos 384 ∷ pos 0 ∷ pos 768 ∷ []) → ⊥
+pub the-last-inner-slope-left-as-it-was : Builds (table 0-1-2-3 0-1-4-7 0-0-0-0) 0 0 (pos 0 ∷ pos 384 ∷ pos 0 ∷ pos 768 ∷ []) → ⊥
 the-last-inner-slope-left-as-it-was p = lists-differ tt (p .slopes)
 
-pub the-first-slope-everywhere : Builds (table 0-1-2 0-1-4 0-0-0) 0 0 (pos 256 ∷ pos 256 ∷ pos 256 ∷ []) → ⊥
+pub the-first-slope-everywhere : Builds (table 0-1-2 0-1-4 0-0-0) 0 0 0-0-0 → ⊥
 the-first-slope-everywhere p = lists-differ tt (p .slopes)
 
-pub the-second-pieces-slope-at-the-first-point : Builds (table 0-1-2 0-1-4 0-0-0) 0 0 (pos 768 ∷ pos 384 ∷ pos 768 ∷ []) → ⊥
-the-second-pieces-slope-at-the-first-point p = lists-differ tt (p .slopes)
+-- 1024 at the first point, and not 0
+pub the-second-piece-for-the-first : Builds (table 0-1-2 0-1-4 0-0-0) 0 0 (pos 1024 ∷ pos 384 ∷ pos 1024 ∷ []) → ⊥
+the-second-piece-for-the-first p = lists-differ tt (p .slopes)
 
 -- with a level piece behind it, where there is none: 0, and not 256
 pub the-last-point-taken-for-an-inner-one : Builds (table 0-1 0-1 (pos 5 ∷ pos 6 ∷ [])) 0 0 (pos 256 ∷ pos 0 ∷ []) → ⊥
 the-last-point-taken-for-an-inner-one p = lists-differ tt (p .slopes)
 
 -- the first piece for the left one of every inner point
-pub the-left-piece-not-carried-along : Builds (table 0-1-2-3 0-1-4-7 0-0-0-0) 0 0 (pos 256 ∷ pos 384 ∷ pos 384 ∷ pos 768 ∷ []) → ⊥
+pub the-left-piece-not-carried-along : Builds (table 0-1-2-3 0-1-4-7 0-0-0-0) 0 0 (pos 0 ∷ pos 384 ∷ pos 384 ∷ pos 768 ∷ []) → ⊥
 the-left-piece-not-carried-along p = lists-differ tt (p .slopes)
 
 -- 256 in the middle, and not 384
-pub a-mean-of-two-units : Builds (table 0-1-2 0-1-4 0-0-0) 0 0 (pos 256 ∷ pos 256 ∷ pos 768 ∷ []) → ⊥
+pub a-mean-of-two-units : Builds (table 0-1-2 0-1-4 0-0-0) 0 0 (pos 0 ∷ pos 256 ∷ pos 1024 ∷ []) → ⊥
 a-mean-of-two-units p = lists-differ tt (p .slopes)
 
 -- 164 in the middle, and not 177
-pub weights-swapped : Builds (table (pos 0 ∷ pos 1 ∷ pos 3 ∷ []) 0-1-2 0-0-0) 0 0 (pos 256 ∷ pos 164 ∷ pos 128 ∷ []) → ⊥
+pub weights-swapped : Builds (table (pos 0 ∷ pos 1 ∷ pos 3 ∷ []) 0-1-2 0-0-0) 0 0 (pos 298 ∷ pos 164 ∷ pos 42 ∷ []) → ⊥
 weights-swapped p = lists-differ tt (p .slopes)
 
 -- −256 in the middle, and not −177
-pub falls-by-one-width : Builds (table (pos 0 ∷ pos 1 ∷ pos 3 ∷ []) (pos 0 ∷ negsuc 0 ∷ negsuc 1 ∷ []) 0-0-0) 0 0 (negsuc 255 ∷ negsuc 255 ∷ negsuc 127 ∷ []) → ⊥
+pub falls-by-one-width : Builds (table (pos 0 ∷ pos 1 ∷ pos 3 ∷ []) (pos 0 ∷ negsuc 0 ∷ negsuc 1 ∷ []) 0-0-0) 0 0 (negsuc 297 ∷ negsuc 255 ∷ negsuc 41 ∷ []) → ⊥
 falls-by-one-width p = lists-differ tt (p .slopes)
+
+-- at the ends, where (0,0), (1,1), (2,4) have 0, 384, 1024: the end piece's own slope
+pub the-secant-at-the-ends : Builds (table 0-1-2 0-1-4 0-0-0) 0 0 (pos 256 ∷ pos 384 ∷ pos 768 ∷ []) → ⊥
+the-secant-at-the-ends p = lists-differ tt (p .slopes)
+
+-- (0,0), (1,1), (2,−3) have 768, 0, −1664: no bound, and no slope where the rises are opposed
+pub the-bound-not-taken : Builds (table 0-1-2 (pos 0 ∷ pos 1 ∷ negsuc 2 ∷ []) 0-0-0) 0 0 (pos 896 ∷ pos 0 ∷ negsuc 1663 ∷ []) → ⊥
+the-bound-not-taken p = lists-differ tt (p .slopes)
+
+pub no-slope-at-an-end-that-turns : Builds (table 0-1-2 (pos 0 ∷ pos 1 ∷ negsuc 2 ∷ []) 0-0-0) 0 0 0-0-0 → ⊥
+no-slope-at-an-end-that-turns p = lists-differ tt (p .slopes)
+
+-- (0,0), (3,1), (4,−9) have 256, 0, −3221: three times 85; and (0,0), (2,1), (3,−9) have 384, 0, −3456: once 256
+pub the-bound-of-three-rounded-secants : Builds (table (pos 0 ∷ pos 3 ∷ pos 4 ∷ []) (pos 0 ∷ pos 1 ∷ negsuc 8 ∷ []) 0-0-0) 0 0 (pos 255 ∷ pos 0 ∷ negsuc 3220 ∷ []) → ⊥
+the-bound-of-three-rounded-secants p = lists-differ tt (p .slopes)
+
+pub the-bound-rounded-before-the-unit : Builds (table (pos 0 ∷ pos 2 ∷ pos 3 ∷ []) (pos 0 ∷ pos 1 ∷ negsuc 8 ∷ []) 0-0-0) 0 0 (pos 256 ∷ pos 0 ∷ negsuc 3455 ∷ []) → ⊥
+the-bound-rounded-before-the-unit p = lists-differ tt (p .slopes)
+
+-- (0,0), (1,−1), (3,−2) have −298, −177, −42: rounded down, and with the widths of the last end swapped
+pub the-ends-rounded-down : Builds (table (pos 0 ∷ pos 1 ∷ pos 3 ∷ []) (pos 0 ∷ negsuc 0 ∷ negsuc 1 ∷ []) 0-0-0) 0 0 (negsuc 298 ∷ negsuc 176 ∷ negsuc 42 ∷ []) → ⊥
+the-ends-rounded-down p = lists-differ tt (p .slopes)
+
+pub the-last-end-with-swapped-widths : Builds (table (pos 0 ∷ pos 1 ∷ pos 3 ∷ []) (pos 0 ∷ negsuc 0 ∷ negsuc 1 ∷ []) 0-0-0) 0 0 (negsuc 297 ∷ negsuc 176 ∷ negsuc 297 ∷ []) → ⊥
+the-last-end-with-swapped-widths p = lists-differ tt (p .slopes)
 
 -- in C: knots 0 and 1 with values 5 and 5 refused, as they would be the other way round
 pub values-for-knots : BuildsC (table 0-1 (pos 5 ∷ pos 5 ∷ []) 0-0) 3 0 0-0 → ⊥
@@ -227,14 +253,14 @@ RenewsNot t from to after = AskedRenewal t from to × (Renews t from to after �
 pub no-slope-renewed : RenewsNot (table 0-1 0-1 0-0) 0 2 0-0
 no-slope-renewed = ((points-by-test 0-1 0-1 refl (count tt tt) tt, (refl, (lit≤ tt, lit≤ tt))), λ e. lists-differ tt e)
 
-pub the-first-slope-renewed-everywhere : RenewsNot (table 0-1-2 0-1-4 0-0-0) 0 3 (pos 256 ∷ pos 256 ∷ pos 256 ∷ [])
+pub the-first-slope-renewed-everywhere : RenewsNot (table 0-1-2 0-1-4 (pos 1 ∷ pos 1 ∷ pos 1 ∷ [])) 0 3 0-0-0
 the-first-slope-renewed-everywhere = ((points-by-test 0-1-2 0-1-4 refl (count tt tt) tt, (refl, (lit≤ tt, lit≤ tt))), λ e. lists-differ tt e)
 
 -- ---- `locate`: a position's piece
 
 -- the tables that a build leaves of the points (0,0), (1,1), (2,4) and of (0,0), (3,−10)
 abbrev rise : Table
-rise = table 0-1-2 0-1-4 (pos 256 ∷ pos 384 ∷ pos 768 ∷ [])
+rise = table 0-1-2 0-1-4 (pos 0 ∷ pos 384 ∷ pos 1024 ∷ [])
 
 abbrev fall : Table
 fall = table (pos 0 ∷ pos 3 ∷ []) (pos 0 ∷ negsuc 9 ∷ []) (negsuc 852 ∷ negsuc 852 ∷ [])
@@ -279,7 +305,7 @@ built {ss = ss} p e l = accepted-table refl (a-built-table-passes-the-table-chec
 pub a-place-counted-from-the-left-value : SeeksNot (table (pos 1 ∷ pos 4 ∷ []) (pos 0 ∷ negsuc 9 ∷ []) (negsuc 852 ∷ negsuc 852 ∷ [])) (pos 2) (On (record { piece = 0; left = pos 0; h = pos 3; z = negsuc 9; m = negsuc 852; n = negsuc 852; t = pos 2 }))
 a-place-counted-from-the-left-value = (built (points-by-test _ _ refl (count tt tt) tt) refl refl, λ s. numbers-differ tt (sought-on s .1 .t-is))
 
-pub the-left-slope-twice : SeeksNot rise (pos 0) (On (record { piece = 0; left = pos 0; h = pos 1; z = pos 1; m = pos 256; n = pos 256; t = pos 0 }))
+pub the-left-slope-twice : SeeksNot rise (pos 0) (On (record { piece = 0; left = pos 0; h = pos 1; z = pos 1; m = pos 0; n = pos 0; t = pos 0 }))
 the-left-slope-twice = (built (points-by-test _ _ refl (count tt tt) tt) refl refl, λ s. numbers-differ tt (sought-on s .1 .n-is))
 
 -- the last knot is in no piece, as one that ends there would have it
@@ -287,7 +313,7 @@ pub the-last-knot-sought-outside : SeeksNot fall (pos 3) Outside
 the-last-knot-sought-outside = (built (points-by-test _ _ refl (count tt tt) tt) refl refl, λ s. sought-outside s (within tt tt))
 
 -- the place of a position in a piece that it does not belong to
-pub a-spot-in-the-piece-that-ends-there : SeeksNot rise (pos 1) (On (record { piece = 0; left = pos 0; h = pos 1; z = pos 1; m = pos 256; n = pos 384; t = pos 1 }))
+pub a-spot-in-the-piece-that-ends-there : SeeksNot rise (pos 1) (On (record { piece = 0; left = pos 0; h = pos 1; z = pos 1; m = pos 0; n = pos 384; t = pos 1 }))
 a-spot-in-the-piece-that-ends-there =
     let a = built (points-by-test _ _ refl (count tt tt) tt) refl refl in
     (a, λ s. omega (arith, one-piece (a .limits) (sought-on s .1 .belongs) (in-piece 1 tt tt tt)))
@@ -338,7 +364,7 @@ slopes-for-values p = no-bend-there a-straight-rise (so-it-holds (p .refusal))
 -- ---- `point` of `change`: (0,0), (1,1), (2,4), (3,7) as a build leaves them
 
 abbrev four : Table
-four = table 0-1-2-3 0-1-4-7 (pos 256 ∷ pos 384 ∷ pos 768 ∷ pos 768 ∷ [])
+four = table 0-1-2-3 0-1-4-7 (pos 0 ∷ pos 384 ∷ pos 768 ∷ pos 768 ∷ [])
 
 -- point 0 gets the value −2, and point 1 the value 2
 abbrev values-0 : List ℤ
@@ -350,18 +376,29 @@ values-1 = pos 0 ∷ pos 2 ∷ pos 4 ∷ pos 7 ∷ []
 pub refused-though-made : Changes four (to 0 (pos 0) (negsuc 1)) 7 0 (table 0-1-2-3 values-0 (pos 768 ∷ pos 768 ∷ pos 768 ∷ pos 768 ∷ [])) → ⊥
 refused-though-made p = the-point-is-there (lit< tt) (so-it-holds (p .refusal))
 
--- 512, 512, 614, 768 are right
-pub the-left-neighbours-slope-only : Changes four (to 1 (pos 1) (pos 2)) 0 0 (table 0-1-2-3 values-1 (pos 512 ∷ pos 512 ∷ pos 768 ∷ pos 768 ∷ [])) → ⊥
+-- 512, 512, 614, 896 are right
+pub the-left-neighbours-slope-only : Changes four (to 1 (pos 1) (pos 2)) 0 0 (table 0-1-2-3 values-1 (pos 512 ∷ pos 512 ∷ pos 768 ∷ pos 896 ∷ [])) → ⊥
 the-left-neighbours-slope-only p = lists-differ tt (p .slopes)
 
-pub the-right-neighbours-slope-only : Changes four (to 1 (pos 1) (pos 2)) 0 0 (table 0-1-2-3 values-1 (pos 256 ∷ pos 512 ∷ pos 614 ∷ pos 768 ∷ [])) → ⊥
+pub the-right-neighbours-slope-only : Changes four (to 1 (pos 1) (pos 2)) 0 0 (table 0-1-2-3 values-1 (pos 0 ∷ pos 512 ∷ pos 614 ∷ pos 896 ∷ [])) → ⊥
 the-right-neighbours-slope-only p = lists-differ tt (p .slopes)
 
+-- the slope of an end that is two points away left as it was: the last one here, and slope 0 where point 2 becomes (2,2), for which 256, 256, 426, 1792 are right
+pub the-last-slope-two-points-away-left : Changes four (to 1 (pos 1) (pos 2)) 0 0 (table 0-1-2-3 values-1 (pos 512 ∷ pos 512 ∷ pos 614 ∷ pos 768 ∷ [])) → ⊥
+the-last-slope-two-points-away-left p = lists-differ tt (p .slopes)
+
+pub slope-0-two-points-away-left : Changes four (to 2 (pos 2) (pos 2)) 0 0 (table 0-1-2-3 (pos 0 ∷ pos 1 ∷ pos 2 ∷ pos 7 ∷ []) (pos 0 ∷ pos 256 ∷ pos 426 ∷ pos 1792 ∷ [])) → ⊥
+slope-0-two-points-away-left p = lists-differ tt (p .slopes)
+
+-- of three points, (0,0), (1,0), (2,1) with 0, 0, 384, the first raised to (0,1): −512, 0, 512 are right
+pub the-third-of-three-slopes-left : Changes (table 0-1-2 (pos 0 ∷ pos 0 ∷ pos 1 ∷ []) (pos 0 ∷ pos 0 ∷ pos 384 ∷ [])) (to 0 (pos 0) (pos 1)) 0 0 (table 0-1-2 (pos 1 ∷ pos 0 ∷ pos 1 ∷ []) (negsuc 511 ∷ pos 0 ∷ pos 384 ∷ [])) → ⊥
+the-third-of-three-slopes-left p = lists-differ tt (p .slopes)
+
 -- whatever the slopes were: of 1, 2, 3, 4 the last two stay
-pub one-slope-too-many : Changes (table 0-1-2-3 0-1-4-7 (pos 1 ∷ pos 2 ∷ pos 3 ∷ pos 4 ∷ [])) (to 0 (pos 0) (pos 0)) 0 0 (table 0-1-2-3 0-1-4-7 (pos 256 ∷ pos 384 ∷ pos 768 ∷ pos 4 ∷ [])) → ⊥
+pub one-slope-too-many : Changes (table 0-1-2-3 0-1-4-7 (pos 1 ∷ pos 2 ∷ pos 3 ∷ pos 4 ∷ [])) (to 0 (pos 0) (pos 0)) 0 0 (table 0-1-2-3 0-1-4-7 (pos 0 ∷ pos 384 ∷ pos 768 ∷ pos 4 ∷ [])) → ⊥
 one-slope-too-many p = lists-differ tt (p .slopes)
 
-pub slopes-of-the-old-points : Changes four (to 0 (pos 0) (negsuc 1)) 0 0 (table 0-1-2-3 values-0 (pos 256 ∷ pos 384 ∷ pos 768 ∷ pos 768 ∷ [])) → ⊥
+pub slopes-of-the-old-points : Changes four (to 0 (pos 0) (negsuc 1)) 0 0 (table 0-1-2-3 values-0 (pos 0 ∷ pos 384 ∷ pos 768 ∷ pos 768 ∷ [])) → ⊥
 slopes-of-the-old-points p = lists-differ tt (p .slopes)
 
 -- whatever it leaves in the lists

@@ -1,11 +1,11 @@
 -- How a bool that says whether a statement holds is made and used.
 use mathlib.Core.Path.{_≡_, refl, sym, subst}
-use mathlib.Core.Bool.{Bool, true, false, not}
+use mathlib.Core.Bool.{Bool, true, false, not, cond, _&&_, _||_}
 use mathlib.Core.Logic.{_⊎_, inl, inr, ⊎-elim}
 use Prim.Native.Nat.{ℕ}
 use lib.Dec.{T}
 use lib.IntN.{ℤ, pos, negℤ}
-use lib.Signed.{_≤ℤ_, _<ℤ_, clashℤ, ≤ℤ-refl}
+use lib.Signed.{_≤ℤ_, _<ℤ_, leZ, ltZ, leZ-yes, ltZ-yes, clashℤ, ≤ℤ-refl}
 use Rattle.integers.specs.Promise.{Between, Decided, holds, fails, magnitude}
 use Rattle.integers.specs.Order.{≤ℤ-or-<ℤ, ≤ℤ-antisym, ≤-pos, pos-≤}
 use Rattle.integers.specs.Within.{Within, within, within-low, within-high}
@@ -22,6 +22,37 @@ told (fails f) e = absurd (subst (λ (b : Bool). T (not b)) e tt)
 pub denied : {A : Type 0} {b : Bool} → Decided A b → b ≡ false → A → ⊥
 denied (holds a) e = absurd (subst T e tt)
 denied (fails f) e = f
+
+-- what is chosen by it, in place of y, and what where x is passed over
+pub chosen : {A : Type 0} {b : Bool} {x : ℤ} (y : ℤ) → Decided A b → A → x ≡ cond b x y
+chosen y (holds a) h = refl
+chosen y (fails f) h = absurd (f h)
+
+pub passed-over : {A : Type 0} {b : Bool} (x : ℤ) {y : ℤ} → Decided A b → (A → ⊥) → y ≡ cond b x y
+passed-over x (holds a) g = absurd (g a)
+passed-over x (fails f) g = refl
+
+-- the tests that a definition makes
+pub decided-≤ : (x y : ℤ) → Decided (x ≤ℤ y) (leZ x y)
+decided-≤ x y = decided-by (leZ x y) (λ e. leZ-yes (subst T (sym e) tt)) (λ e h. subst T e (h .le))
+
+pub decided-< : (x y : ℤ) → Decided (x <ℤ y) (ltZ x y)
+decided-< x y = decided-by (ltZ x y) (λ e. ltZ-yes (subst T (sym e) tt)) (λ e h. subst T e (h .lt))
+
+pub decided-both : {A B : Type 0} {b c : Bool} → Decided A b → Decided B c → Decided (A × B) (b && c)
+decided-both (holds a) (holds d) = holds (a, d)
+decided-both (holds a) (fails g) = fails (λ w. g (w .1))
+decided-both (fails f) d = fails (λ w. f (w .0))
+
+pub decided-either : {A B : Type 0} {b c : Bool} → Decided A b → Decided B c → Decided (A ⊎ B) (b || c)
+decided-either (holds a) d = holds (inl a)
+decided-either (fails f) (holds b) = holds (inr b)
+decided-either (fails f) (fails g) = fails (⊎-elim f g)
+
+-- of a statement that says the same
+pub decided-alike : {A B : Type 0} {b : Bool} → (A → B) → (B → A) → Decided A b → Decided B b
+decided-alike f g (holds a) = holds (f a)
+decided-alike f g (fails h) = fails (λ b. h (g b))
 
 -- of the same number under another name
 pub asked : (W : ℤ → Type 0) {y x : ℤ} {b : Bool} → y ≡ x → Decided (W y) b → Decided (W x) b

@@ -206,3 +206,16 @@ floor-of n {d = negsuc d} h = absurd (h .lt)
 
 pub floor-low : (n : ℤ) {d : ℤ} → pos 0 <ℤ d → (floorOf n d *ℤ d) ≤ℤ n
 floor-low n h = floor-of n h .low
+
+-- nothing, divided
+pub floor-nothing : (d : ℤ) → floorOf (pos 0) d ≡ pos 0
+floor-nothing d = ≤ℤ-antisym (floor-at-most d (0≤-number 0)) (0≤-floor d (0≤-number 0))
+
+-- a number turned over, toward zero
+pub toward-minus : (n d : ℤ) → towardZero (negℤ n) d ≡ negℤ (towardZero n d)
+toward-minus (pos zero) d = floor-nothing d ∙ ap negℤ (sym (floor-nothing d))
+toward-minus (pos (suc n)) d = refl
+toward-minus (negsuc n) d = sym (twice (floorOf (pos (suc n)) d))
+  where
+    twice : (x : ℤ) → negℤ (negℤ x) ≡ x
+    twice x = ring (x ∷ []) (search quote depth 30 fits 9000) tt

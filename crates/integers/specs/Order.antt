@@ -4,9 +4,9 @@ use mathlib.Core.Path.{_≡_, refl, sym, subst}
 use mathlib.Core.Bool.{Bool, true, false, not}
 use mathlib.Core.List.{[], _∷_}
 use mathlib.Core.Logic.{_⊎_, inl, inr, ⊎-elim}
-use Prim.Native.Nat.{ℕ, suc, _*_, _≤_}
+use Prim.Native.Nat.{ℕ, suc, _*_, _≤_, _<_}
 use native.Mathlib.Omega.{arith}
-use lib.Dec.{T, T-not}
+use lib.Dec.{T, T-not, leb, leb→le, nleb→lt}
 use lib.IntN.{ℤ, pos, negsuc, negℤ, _+ℤ_, _-ℤ_, _*ℤ_}
 use lib.Signed.{_≤ℤ_, _<ℤ_, leZ, ltZ, leZ-yes, ltZ-yes, ltZ-no, clashℤ}
 use Rattle.integers.specs.Parts.{≤-to, ≤-from, <-from}
@@ -20,6 +20,9 @@ pub ≤ℤ-trans : {x y z : ℤ} → x ≤ℤ y → y ≤ℤ z → x ≤ℤ z
 
 pub ≤ℤ-<ℤ-trans : {x y z : ℤ} → x ≤ℤ y → y <ℤ z → x <ℤ z
 ≤ℤ-<ℤ-trans {x} {y} {z} = lin (x ∷ y ∷ z ∷ []) (search says depth 30 fits 9000) (omega arith)
+
+pub <ℤ-≤ℤ-trans : {x y z : ℤ} → x <ℤ y → y ≤ℤ z → x <ℤ z
+<ℤ-≤ℤ-trans {x} {y} {z} = lin (x ∷ y ∷ z ∷ []) (search says depth 30 fits 9000) (omega arith)
 
 pub <ℤ→≤ℤ : {x y : ℤ} → x <ℤ y → x ≤ℤ y
 <ℤ→≤ℤ {x} {y} = lin (x ∷ y ∷ []) (search says depth 30 fits 9000) (omega arith)
@@ -39,6 +42,13 @@ pub ≤-pos : {m n : ℕ} → pos m ≤ℤ pos n → m ≤ n
 ≤-pos {m} {n} h = omega (arith, ≤-to (pos m) (pos n) h)
 
 -- ---- cases
+
+pub <-or-≤ : (m n : ℕ) → (m < n) ⊎ (n ≤ m)
+<-or-≤ m n = told (leb n m) refl
+  where
+    told : (b : Bool) → leb n m ≡ b → (m < n) ⊎ (n ≤ m)
+    told true t = inr (leb→le n m (subst T (sym t) tt))
+    told false t = inl (nleb→lt n m (subst (λ (b : Bool). T (not b)) (sym t) tt))
 
 pub leZ-no : {x y : ℤ} → T (not (leZ x y)) → y <ℤ x
 leZ-no {x} {y} t = go (ltZ y x) refl
@@ -128,6 +138,12 @@ pub 0≤-cancel : {k x : ℤ} → pos 0 <ℤ k → pos 0 ≤ℤ (k *ℤ x) → p
   where
     clash : (x p : ℤ) → pos 0 <ℤ (k *ℤ negℤ x) → pos 0 ≤ℤ p → k *ℤ negℤ x ≡ negℤ p → pos 0 ≤ℤ x
     clash x p = lin ((k *ℤ negℤ x) ∷ p ∷ x ∷ []) (search says depth 30 fits 9000) (omega arith)
+
+pub 0<-factor : {k x : ℤ} → pos 0 <ℤ k → pos 0 <ℤ (x *ℤ k) → pos 0 <ℤ x
+0<-factor {k} {x} h p = ⊎-elim (λ l. clashℤ p (none l)) (λ l. l) (≤ℤ-or-<ℤ x (pos 0))
+  where
+    none : x ≤ℤ pos 0 → (x *ℤ k) ≤ℤ pos 0
+    none l = let k₀ = <ℤ→≤ℤ h in at-most (negℤ x *ℤ k) (ring (x ∷ k ∷ []) (search quote depth 30 fits 9000) tt) (search signs)
 
 pub ≤ℤ-cancel : {k x y : ℤ} → pos 0 <ℤ k → (k *ℤ x) ≤ℤ (k *ℤ y) → x ≤ℤ y
 ≤ℤ-cancel {k} {x} {y} h p =

@@ -1,14 +1,16 @@
 -- Magnitudes and signs: of a number on one side of 0, and of two whose product is above 0.
-use mathlib.Core.Path.{_≡_, refl}
-use mathlib.Core.List.{[]}
+use mathlib.Core.Path.{_≡_, refl, ap}
+use mathlib.Core.List.{[], _∷_}
 use Prim.Native.Nat.{ℕ, zero, suc, _*_}
 use native.Mathlib.Omega.{arith}
 use lib.IntN.{ℤ, pos, negsuc, negℤ, _*ℤ_}
 use lib.Signed.{_≤ℤ_, _<ℤ_}
 use Rattle.integers.specs.Promise.{magnitude, withSign}
 use Rattle.integers.specs.Parts.{<-from, <-to}
+use Rattle.integers.specs.Ring.{ring, quote}
 use Rattle.integers.specs.Linear.{lin, says}
 use Rattle.integers.specs.Order.{0<-suc, 0≤-number}
+use Rattle.integers.specs.Within.{natAbs-minus}
 
 -- ---- one number
 
@@ -27,6 +29,18 @@ sign-up (negsuc n) x h = absurd (h .le)
 pub sign-down : (s x : ℤ) → s <ℤ pos 0 → withSign s x ≡ negℤ x
 sign-down (pos n) x h = absurd (omega (arith, <-to (pos n) (pos 0) h))
 sign-down (negsuc n) x h = refl
+
+-- turned over, it is as large
+pub magnitude-minus : (x : ℤ) → magnitude (negℤ x) ≡ magnitude x
+magnitude-minus x = ap pos (natAbs-minus x)
+
+-- a multiple of its magnitude, with its sign
+pub signed-multiple : (k x : ℤ) → withSign x (k *ℤ magnitude x) ≡ k *ℤ x
+signed-multiple k (pos n) = refl
+signed-multiple k (negsuc n) = turned k (pos (suc n))
+  where
+    turned : (k x : ℤ) → negℤ (k *ℤ x) ≡ k *ℤ negℤ x
+    turned k x = ring (k ∷ x ∷ []) (search quote depth 30 fits 9000) tt
 
 -- three ways: above 0, below it, or 0
 pub by-sign : {X : Type 0} (x : ℤ) → (pos 0 <ℤ x → X) → (x <ℤ pos 0 → X) → (x ≡ pos 0 → X) → X

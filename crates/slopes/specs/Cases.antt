@@ -1,39 +1,69 @@
 -- The slope of a table at its first, its last and any other point.
-use mathlib.Core.Path.{_≡_, refl, sym, _∙_, ap₂, subst₂}
+use mathlib.Core.Path.{_≡_, refl, sym, _∙_, ap, ap₂, subst₂}
 use mathlib.Core.Bool.{Bool, cond}
 use mathlib.Core.List.{List}
 use Prim.Native.Nat.{ℕ, _+_, _-_, _≤_, _<_}
+use native.Mathlib.Omega.{arith}
 use lib.Dec.{eqb, ltb}
 use lib.IntN.{ℤ}
 use lib.ListN.{length}
 use borrow.Author.Tests.{eq-eqb, ne-eqb, lt-ltb, le-ltb}
 use Rattle.cubic.specs.Piece.{unit}
-use Rattle.cubic.specs.Slopes.{innerSlope}
+use Rattle.cubic.specs.Slopes.{secantSlope, innerSlope}
 use Rattle.table.specs.Table.{step}
 use Rattle.table.specs.Accepted.{PointsWithin}
 use Rattle.slopes.specs.Sizes.{PieceWithin}
 use Rattle.slopes.specs.Slopes.{endAt, innerAt, builtSlope}
 
+-- point i is an end of a table of n points
+pub data AtEnd (n i : ℕ) : Type 0 where
+  at-the-first : i ≡ 0 → AtEnd n i
+  at-the-last : i + 1 ≡ n → AtEnd n i
+
+-- the piece beside the end piece of a table of three points or more
+pub data Neighbour (i : ℕ) : ℕ → Type 0 where
+  behind-the-first : i ≡ 0 → Neighbour i 1
+  before-the-last : 1 < i → Neighbour i (i - 2)
+
+-- a rule over two pieces, of the same two under other names
+pub same-pieces : (rule : (h₁ z₁ h₂ z₂ : ℤ) → ℤ) {h₁ z₁ h₂ z₂ h₁' z₁' h₂' z₂' : ℤ} → h₁ ≡ h₁' → z₁ ≡ z₁' → h₂ ≡ h₂' → z₂ ≡ z₂' → rule h₁ z₁ h₂ z₂ ≡ rule h₁' z₁' h₂' z₂'
+same-pieces rule {h₂ = h₂} {z₂ = z₂} {h₁' = h₁'} {z₁' = z₁'} a b c d = ap₂ (λ (h z : ℤ). rule h z h₂ z₂) a b ∙ ap₂ (rule h₁' z₁') c d
+
 module _ (ks vs : List ℤ) (i : ℕ) where
-  chosen : {s t : Bool} → eqb i 0 ≡ s → ltb (i + 1) (length ks) ≡ t → cond s (endAt ks vs 0) (cond t (innerAt ks vs (i - 1) i) (endAt ks vs (i - 1))) ≡ builtSlope ks vs i
-  chosen e f =
-      ap₂ (λ (s t : Bool). cond s (endAt ks vs 0) (cond t (innerAt ks vs (i - 1) i) (endAt ks vs (i - 1)))) (sym e) (sym f)
+  -- by the three tests that the definition makes
+  abbrev by-tests : (r s t : Bool) → ℤ
+  by-tests r s t = cond r (cond s (endAt ks vs 0 1) (cond t (innerAt ks vs (i - 1) i) (endAt ks vs (i - 1) (i - 2)))) (secantSlope unit (step ks 0) (step vs 0))
 
-  pub first-slope : i ≡ 0 → endAt ks vs 0 ≡ builtSlope ks vs i
-  first-slope e = chosen (eq-eqb i 0 e) refl
+  chosen : {r s t : Bool} → ltb 2 (length ks) ≡ r → eqb i 0 ≡ s → ltb (i + 1) (length ks) ≡ t → by-tests r s t ≡ builtSlope ks vs i
+  chosen {s = s} {t = t} d e f = ap (λ (r : Bool). by-tests r s t) (sym d) ∙ ap₂ (by-tests (ltb 2 (length ks))) (sym e) (sym f)
 
-  pub last-slope : (i ≡ 0 → ⊥) → length ks ≤ i + 1 → endAt ks vs (i - 1) ≡ builtSlope ks vs i
-  last-slope e l = chosen (ne-eqb i 0 e) (le-ltb (i + 1) (length ks) l)
+  pub slope-of-two : length ks ≤ 2 → secantSlope unit (step ks 0) (step vs 0) ≡ builtSlope ks vs i
+  slope-of-two l = chosen (le-ltb 2 (length ks) l) refl refl
 
-  pub inner-slope : (i ≡ 0 → ⊥) → i + 1 < length ks → innerAt ks vs (i - 1) i ≡ builtSlope ks vs i
-  inner-slope e l = chosen (ne-eqb i 0 e) (lt-ltb (i + 1) (length ks) l)
+  pub first-slope : i ≡ 0 → 2 < length ks → endAt ks vs 0 1 ≡ builtSlope ks vs i
+  first-slope e l = chosen (lt-ltb 2 (length ks) l) (eq-eqb i 0 e) refl
+
+  pub last-slope : 1 < i → length ks ≡ i + 1 → endAt ks vs (i - 1) (i - 2) ≡ builtSlope ks vs i
+  last-slope b e = chosen (lt-ltb 2 (length ks) (omega arith)) (ne-eqb i 0 (λ (z : i ≡ 0). omega arith)) (le-ltb (i + 1) (length ks) (omega arith))
+
+  pub inner-slope : 0 < i → i + 1 < length ks → innerAt ks vs (i - 1) i ≡ builtSlope ks vs i
+  inner-slope b l = chosen (lt-ltb 2 (length ks) (omega arith)) (ne-eqb i 0 (λ (z : i ≡ 0). omega arith)) (lt-ltb (i + 1) (length ks) l)
 
   -- of pieces as they were read
-  pub inner-slope-of : {h₁ z₁ h₂ z₂ : ℤ} → (i ≡ 0 → ⊥) → i + 1 < length ks → h₁ ≡ step ks (i - 1) → z₁ ≡ step vs (i - 1) → h₂ ≡ step ks i → z₂ ≡ step vs i → innerSlope unit h₁ z₁ h₂ z₂ ≡ builtSlope ks vs i
-  inner-slope-of {h₂ = h₂} {z₂ = z₂} e l a b c d =
-      ap₂ (λ (h z : ℤ). innerSlope unit h z h₂ z₂) a b
-      ∙ ap₂ (λ (h z : ℤ). innerSlope unit (step ks (i - 1)) (step vs (i - 1)) h z) c d
-      ∙ inner-slope e l
+  pub inner-slope-of : {h₁ z₁ h₂ z₂ : ℤ} → 0 < i → i + 1 < length ks → h₁ ≡ step ks (i - 1) → z₁ ≡ step vs (i - 1) → h₂ ≡ step ks i → z₂ ≡ step vs i → innerSlope unit h₁ z₁ h₂ z₂ ≡ builtSlope ks vs i
+  inner-slope-of b l h₁ z₁ h₂ z₂ = same-pieces (innerSlope unit) h₁ z₁ h₂ z₂ ∙ inner-slope b l
+
+  -- at an end, whichever it is
+  module _ (n : 2 < length ks) where
+    pub end-pieces : {j : ℕ} → AtEnd (length ks) i → Neighbour i j → (i - 1 + 1 < length ks) × (j + 1 < length ks)
+    end-pieces e (behind-the-first z) = (omega arith, omega arith)
+    end-pieces (at-the-first z) (before-the-last b) = absurd (omega arith)
+    end-pieces (at-the-last l) (before-the-last b) = (omega arith, omega arith)
+
+    pub end-slope : {j : ℕ} → AtEnd (length ks) i → Neighbour i j → endAt ks vs (i - 1) j ≡ builtSlope ks vs i
+    end-slope e (behind-the-first z) = ap (λ (k : ℕ). endAt ks vs k 1) {x = i - 1} {y = 0} (omega arith) ∙ first-slope z n
+    end-slope (at-the-first z) (before-the-last b) = absurd (omega arith)
+    end-slope (at-the-last l) (before-the-last b) = last-slope b (sym l)
 
 -- a piece as it was read is within the limits
 pub piece-within : {ks vs : List ℤ} {h z : ℤ} (i : ℕ) → PointsWithin ks vs → i + 1 < length ks → h ≡ step ks i → z ≡ step vs i → PieceWithin h z

@@ -77,8 +77,9 @@ put-all f list n e =
     inside i l = subst (λ (m : ℕ). i < m) (length-put f 0 list n) l
 
 -- the first entry, then those between, then the last
-pub put-ends : (f : ℕ → ℤ) (list : List ℤ) (n : ℕ) → 2 ≤ n → length list ≡ n → set (put f 1 (n - 2) (set list 0 (f 0))) (n - 1) (f (n - 1)) ≡ tab n f
+pub put-ends : (f : ℕ → ℤ) (list : List ℤ) (n : ℕ) → 2 ≤ n → length list ≡ n → put f (n - 1) (n - (n - 1)) (put f 1 (n - 2) (put f 0 1 list)) ≡ tab n f
 put-ends f list n l e =
-    ap₂ (λ (l : List ℤ) (j : ℕ). set l j (f j)) {u = n - 1} {v = 0 + (1 + (n - 2))} (put-on f 0 list 1 (n - 2)) (omega arith)
-    ∙ ap (λ (c : ℕ). put f 0 c list) {x = suc (1 + (n - 2))} {y = n} (omega arith)
+    ap₂ (λ (lo : ℕ) (l : List ℤ). put f lo (n - (n - 1)) l) {x = n - 1} {y = 0 + (1 + (n - 2))} (omega arith) (put-on f 0 list 1 (n - 2))
+    ∙ put-on f 0 list (1 + (n - 2)) (n - (n - 1))
+    ∙ ap (λ (c : ℕ). put f 0 c list) {x = 1 + (n - 2) + (n - (n - 1))} {y = n} (omega arith)
     ∙ put-all f list n e

@@ -1,18 +1,20 @@
--- A piece within the limits, one that rises, and how large the mean between two such rises can be.
-use mathlib.Core.Path.{_≡_}
+-- A piece within the limits, one that rises, and how large the slope at a point beside such pieces can be.
+use mathlib.Core.Path.{_≡_, sym, subst}
 use mathlib.Core.List.{[], _∷_}
 use native.Mathlib.Omega.{arith}
-use lib.IntN.{ℤ, pos, _-ℤ_, _*ℤ_}
+use lib.IntN.{ℤ, pos, negsuc, negℤ, _-ℤ_, _*ℤ_}
 use lib.Signed.{_≤ℤ_, _<ℤ_, ltZ-yes, leZ-yes}
+use Rattle.integers.specs.Promise.{withSign}
 use Rattle.integers.specs.Ring.{ring, quote}
 use Rattle.integers.specs.Linear.{lin, says}
-use Rattle.integers.specs.Order.{≤ℤ-trans, 0≤-gap, at-most, signs}
-use Rattle.integers.specs.Within.{Within, within}
+use Rattle.integers.specs.Order.{≤ℤ-trans, <ℤ→≤ℤ, 0≤-gap, 0<-product, at-most, pos-≤, signs}
+use Rattle.integers.specs.Within.{Within, within, within-minus}
 use Rattle.cubic.specs.Piece.{unit}
-use Rattle.cubic.specs.Slopes.{mean}
-use Rattle.cubic.specs.Fair.{0≤-mean, mean-high}
+use Rattle.cubic.specs.Slopes.{mean, endSlope}
+use Rattle.cubic.specs.Inner.{inner-up}
+use Rattle.cubic.specs.Fair.{Fair, end-fair, inner-fair}
 use Rattle.rules.specs.Limits.{WidthWithin, RiseWithin}
-use Rattle.rules.specs.Known.{0<-width}
+use Rattle.rules.specs.Known.{0<-width, rise-size}
 
 pub record PieceWithin (h z : ℤ) : Type 0 where
   pub width : WidthWithin h
@@ -26,15 +28,40 @@ pub record Up (h z : ℤ) : Type 0 where
 pub record Mean (h₁ z₁ h₂ z₂ m : ℤ) : Type 0 where
   pub is : m ≡ mean unit h₁ z₁ h₂ z₂
 
+-- m is the slope at an end, likewise
+pub record End (h₁ z₁ h₂ z₂ m : ℤ) : Type 0 where
+  pub is : m ≡ endSlope unit h₁ z₁ h₂ z₂
+
+-- a piece turned over is within the limits too
+pub turned : {h z : ℤ} → PieceWithin h z → PieceWithin h (negℤ z)
+turned {h} {z} w = record { width = w .width; rise = record { low = least (w .rise .high); high = most (w .rise .low) } }
+  where
+    least : {z : ℤ} → z ≤ℤ pos 1048576 → negsuc 1048575 ≤ℤ negℤ z
+    least {z} = lin (z ∷ []) (search says depth 30 fits 9000) (omega arith)
+
+    most : {z : ℤ} → negsuc 1048575 ≤ℤ z → negℤ z ≤ℤ pos 1048576
+    most {z} = lin (z ∷ []) (search says depth 30 fits 9000) (omega arith)
+
 -- at most three times as steep as the piece is at most three units times the largest rise
-pub mean-within : {h₁ z₁ h₂ z₂ : ℤ} → Up h₁ z₁ → Up h₂ z₂ → Within 805306368 (mean unit h₁ z₁ h₂ z₂)
-mean-within {h₁} {z₁} {h₂} {z₂} a b =
-    let m₀ = 0≤-mean {U = unit} (ltZ-yes tt) (0<-width (a .within .width)) (0<-width (b .within .width)) (a .up) (b .up) in
-    let m₁ = mean-high {U = unit} (ltZ-yes tt) (0<-width (a .within .width)) (0<-width (b .within .width)) (a .up) (b .up) in
-    within _ _ (≤ℤ-trans (leZ-yes tt) m₀) (highest (alone m₀ (a .within .width .low)) m₁ (a .within .rise .high))
+pub fair-within : {h z m : ℤ} → PieceWithin h z → Fair unit h z m → Within 805306368 m
+fair-within {h} {z} {m} w f =
+    subst (Within 805306368) (sym (f .signed)) (signed z (within 805306368 (f .size) (≤ℤ-trans (leZ-yes tt) (f .low)) (highest (alone (f .low) (w .width .low)) (f .high) (pos-≤ (rise-size (w .rise) .size)))))
   where
     alone : {m h : ℤ} → pos 0 ≤ℤ m → pos 1 ≤ℤ h → m ≤ℤ (m *ℤ h)
     alone {m} {h} m₀ h₁ = at-most (m *ℤ (h -ℤ pos 1)) (ring (m ∷ h ∷ []) (search quote depth 30 fits 9000) tt) (let g = 0≤-gap h₁ in search signs)
 
     highest : {m a z : ℤ} → m ≤ℤ a → a ≤ℤ (pos 3 *ℤ (pos 256 *ℤ z)) → z ≤ℤ pos 1048576 → m ≤ℤ pos 805306368
     highest {m} {a} {z} = lin (m ∷ a ∷ z ∷ []) (search says depth 30 fits 9000) (omega arith)
+
+    signed : (z : ℤ) {s : ℤ} → Within 805306368 s → Within 805306368 (withSign z s)
+    signed (pos n) w = w
+    signed (negsuc n) {s} w = within-minus s w
+
+module _ {h₁ z₁ h₂ z₂ : ℤ} where
+  pub mean-within : Up h₁ z₁ → Up h₂ z₂ → Within 805306368 (mean unit h₁ z₁ h₂ z₂)
+  mean-within a b =
+      fair-within (a .within)
+      (subst (Fair unit h₁ z₁) (sym (inner-up unit h₁ z₁ h₂ z₂ (0<-product (a .up) (b .up)) (<ℤ→≤ℤ (a .up)))) (inner-fair (ltZ-yes tt) (0<-width (a .within .width)) (0<-width (b .within .width)) z₁ z₂))
+
+  pub end-within : PieceWithin h₁ z₁ → PieceWithin h₂ z₂ → Within 805306368 (endSlope unit h₁ z₁ h₂ z₂)
+  end-within a b = fair-within a (end-fair (ltZ-yes tt) (0<-width (a .width)) (0<-width (b .width)) z₁ z₂)

@@ -8,23 +8,26 @@ use lib.Dec.{eqb, ltb}
 use lib.IntN.{ℤ}
 use lib.ListN.{length}
 use Rattle.cubic.specs.Piece.{unit}
-use Rattle.cubic.specs.Slopes.{endSlope, innerSlope}
+use Rattle.cubic.specs.Slopes.{endSlope, secantSlope, innerSlope}
 use Rattle.rules.specs.Refusals.{Given, afterwards}
 use Rattle.table.specs.Table.{table, step, Holds, buildOrder}
 
 module _ (ks vs : List ℤ) where
-  -- the end rule for piece i, and the rule for the point between piece i and piece j
-  abbrev pub endAt : ℕ → ℤ
-  endAt i = endSlope unit (step ks i) (step vs i)
+  -- the end rule for piece i, whose neighbour is piece j, and the rule for the point between piece i and piece j
+  abbrev pub endAt : (i j : ℕ) → ℤ
+  endAt i j = endSlope unit (step ks i) (step vs i) (step ks j) (step vs j)
 
   abbrev pub innerAt : (i j : ℕ) → ℤ
   innerAt i j = innerSlope unit (step ks i) (step vs i) (step ks j) (step vs j)
 
-  -- "End points take the slope of the end piece [..]. An inner point has pieces h1, z1 on its left and h2, z2 on its right."
-  -- Point 0 takes the end rule of piece 0, a point with another after it the rule between pieces i − 1 and i, and the last point the end rule of piece i − 1. Nothing
-  -- rests on what it says of a point that isn't there.
+  -- "With three or more points use PCHIM's end rule: for the end piece h1, z1 and its neighbour h2, z2 [..]. Two points keep the secant." "An inner point has pieces h1, z1 on its
+  -- left and h2, z2 on its right."
+  -- Point 0 takes the end rule of piece 0, beside piece 1, a point with another after it the rule between pieces i − 1 and i, and the last point the end rule of piece i − 1, beside
+  -- piece i − 2. Nothing rests on what it says of a point that isn't there.
   abbrev pub builtSlope : ℕ → ℤ
-  builtSlope i = cond (eqb i 0) (endAt 0) (cond (ltb (i + 1) (length ks)) (innerAt (i - 1) i) (endAt (i - 1)))
+  builtSlope i =
+      cond (ltb 2 (length ks)) (cond (eqb i 0) (endAt 0 1) (cond (ltb (i + 1) (length ks)) (innerAt (i - 1) i) (endAt (i - 1) (i - 2))))
+      (secantSlope unit (step ks 0) (step vs 0))
 
 -- the list of the n entries f 0, f 1, .. f (n − 1)
 abbrev pub tab : ℕ → (ℕ → ℤ) → List ℤ

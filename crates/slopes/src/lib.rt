@@ -1,4 +1,4 @@
-// Slopes that are built: Fritsch and Butland's mean at inner points, the end piece's own slope at the ends.
+// Slopes that are built: Fritsch and Butland's mean at inner points, PCHIM's end rule at the ends, and the secant where there are two points alone.
 mod point;
 mod rule;
 mod run;

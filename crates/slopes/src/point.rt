@@ -2,27 +2,81 @@
 ghost use mathlib.Core.Path.{_≡_};
 ghost use Prim.Native.Nat.{_-_, _≤_, _<_};
 ghost use lib.ListN.{length};
+ghost use Rattle.integers.specs.Promise.{Decided};
 ghost use Rattle.table.specs.Accepted.{PointsWithin};
 ghost use Rattle.slopes.specs.Slopes.{builtSlope};
+ghost use Rattle.slopes.specs.Cases.{AtEnd, Neighbour};
 ghost use Rattle.slopes.specs.Put.{put};
 use crate::rule;
 
+// Whether point i is an end of a table of n points.
+fn is_end(i: usize, n: usize) -> bool
+    requires { ⌜ i < n ⌝ }
+    ensures { λ r. ⌜ Decided (AtEnd n i) r ⌝ }
+{
+    if i == 0 {
+        return true;
+    }
+    n - i < 2
+}
+
+// The number of the end piece, and that of its neighbour, where point i is an end of a table of three points or more.
+fn end_piece(i: usize) -> usize
+    ensures { λ r. ⌜ r ≡ i - 1 ⌝ }
+{
+    if i == 0 {
+        return 0;
+    }
+    i - 1
+}
+
+fn neighbour(i: usize) -> usize
+    requires { ⌜ (i ≡ 1 → ⊥) ⌝ }
+    ensures { λ r. ⌜ Neighbour i r ⌝ }
+{
+    if i == 0 {
+        return 1;
+    }
+    i - 2
+}
+
+// At point i, an end.
+fn at_end(knots: &[i32], values: &[i32], i: usize) -> i32
+    requires { ⌜ PointsWithin (now knots) (now values) ⌝ }
+    requires { ⌜ 2 < length (now knots) ⌝ }
+    requires { ⌜ AtEnd (length (now knots)) i ⌝ }
+    ensures { λ r. ⌜ r ≡ builtSlope (now (knots .entry)) (now (values .entry)) i ⌝ }
+{
+    let piece = end_piece(i);
+    let next = neighbour(i);
+    rule::end(
+        table::step(knots, piece),
+        table::step(values, piece),
+        table::step(knots, next),
+        table::step(values, next),
+    )
+}
+
 // At point i, an end or between two pieces.
-pub(crate) fn slope(knots: &[i32], values: &[i32], i: usize) -> i32
+fn slope(knots: &[i32], values: &[i32], i: usize) -> i32
     requires { ⌜ PointsWithin (now knots) (now values) ⌝ }
     requires { ⌜ i < length (now knots) ⌝ }
     ensures { λ r. ⌜ r ≡ builtSlope (now (knots .entry)) (now (values .entry)) i ⌝ }
 {
-    if i == 0 {
-        return rule::end(table::step(knots, 0), table::step(values, 0));
+    let n = knots.len();
+    if n < 3 {
+        return rule::secant(table::step(knots, 0), table::step(values, 0));
+    }
+    if is_end(i, n) {
+        return at_end(knots, values, i);
     }
     let left = i - 1;
-    let h1 = table::step(knots, left);
-    let z1 = table::step(values, left);
-    if knots.len() - i < 2 {
-        return rule::end(h1, z1);
-    }
-    rule::inner(h1, z1, table::step(knots, i), table::step(values, i))
+    rule::inner(
+        table::step(knots, left),
+        table::step(values, left),
+        table::step(knots, i),
+        table::step(values, i),
+    )
 }
 
 // Puts the slopes of the points from `from` up to and without `to` into their places.

@@ -7,7 +7,7 @@ ghost use Rattle.slopes.specs.Slopes.{builtSlope};
 ghost use Rattle.slopes.specs.Put.{put};
 use crate::rule;
 
-// Puts the slopes of the points between the first and the last into their places. The ends have a rule of their own, which `point::slope` knows, and are
+// Puts the slopes of the points between the first and the last into their places. The ends have a rule of their own, which `point::renew` knows, and are
 // left as they are.
 pub(crate) fn inner(knots: &[i32], values: &[i32], slopes: &mut [i32])
     requires { ⌜ PointsWithin (now knots) (now values) ⌝ }

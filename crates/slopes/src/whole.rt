@@ -13,10 +13,10 @@ pub fn build(knots: &[i32], values: &[i32], slopes: &mut [i32]) -> Refusal
     if refusal.number != rules::DONE {
         return refusal;
     }
-    // The ends by `slope`, whatever their rule looks at; all others are inner points.
-    let last = knots.len() - 1;
-    slopes[0] = point::slope(knots, values, 0);
+    // The ends by `renew`, whatever their rule looks at; all others are inner points.
+    let n = knots.len();
+    point::renew(knots, values, slopes, 0, 1);
     run::inner(knots, values, slopes);
-    slopes[last] = point::slope(knots, values, last);
+    point::renew(knots, values, slopes, n - 1, n);
     refusal
 }

@@ -1,11 +1,9 @@
 -- `slopes::rule::inner` meets its contract: each way through the code is one case of the rule.
 use mathlib.Core.Path.{_≡_, sym, _∙_, ap, subst}
 use mathlib.Core.List.{List, [], _∷_}
-use native.Mathlib.Omega.{arith}
-use lib.IntN.{ℤ, pos, negsuc, negℤ, _*ℤ_}
+use lib.IntN.{ℤ, pos, negℤ, _*ℤ_}
 use lib.Signed.{_≤ℤ_, _<ℤ_}
 use mir.Facts.{toZ-ofZ}
-use Rattle.integers.specs.Linear.{lin, says}
 use Rattle.integers.specs.Within.{Within}
 use Rattle.integers.specs.Sizes.{Known, known, fits, plain-is, code}
 use Rattle.integers.specs.Tests.{tests, passed, passed-at-most, failed}
@@ -13,9 +11,8 @@ use Rattle.integers.specs.Arguments.{arguments, plainly₄, as-coded₂}
 use Rattle.cubic.specs.Piece.{unit}
 use Rattle.cubic.specs.Slopes.{mean}
 use Rattle.cubic.specs.Inner.{inner-level, both-up, inner-up, both-down, inner-down}
-use Rattle.rules.specs.Limits.{RiseWithin}
 use Rattle.rules.specs.Known.{known-width, known-rise}
-use Rattle.slopes.specs.Sizes.{PieceWithin, Up, Mean, mean-within}
+use Rattle.slopes.specs.Sizes.{Up, Mean, turned, mean-within}
 use Rattle.slopes.proofs.rule.inner.Statement.{statement}
 use Rattle.slopes.proofs.rule.inner.Tie as tie
 
@@ -49,24 +46,11 @@ sub-mean-2 c = fits (given (c .before .before)) (search code depth 30 fits 9000)
 down : (c : tie.Then2) → c .before .before .args .z1 <ℤ pos 0
 down c = passed (given (c .before .before)) (c .if2 .taken) (search tests depth 30 fits 9000) tt
 
--- what falls within the limits rises within them, turned over
-over : {h z : ℤ} → PieceWithin h z → pos 0 <ℤ negℤ z → Up h (negℤ z)
-over {h} {z} w u = record { within = record { width = w .width; rise = turned (w .rise) }; up = u }
-  where
-    turned : {z : ℤ} → RiseWithin z → RiseWithin (negℤ z)
-    turned {z} r = record { low = least (r .high); high = most (r .low) }
-      where
-        least : {z : ℤ} → z ≤ℤ pos 1048576 → negsuc 1048575 ≤ℤ negℤ z
-        least {z} = lin (z ∷ []) (search says depth 30 fits 9000) (omega arith)
-
-        most : {z : ℤ} → negsuc 1048575 ≤ℤ z → negℤ z ≤ℤ pos 1048576
-        most {z} = lin (z ∷ []) (search says depth 30 fits 9000) (omega arith)
-
 falls : (c : tie.Then2) → let s = c .before .before .args in Up (s .h1) (negℤ (s .z1)) × Up (s .h2) (negℤ (s .z2))
 falls c =
     let s = c .before .before in
     let u = both-down unit (s .args .h1) (s .args .z1) (s .args .h2) (s .args .z2) (product (c .before)) (down c) in
-    (over (s .pre .0) (u .0), over (s .pre .1) (u .1))
+    (record { within = turned (s .pre .0); up = u .0 }, record { within = turned (s .pre .1); up = u .1 })
 
 mean-requires : tie.Need-mean-requires
 mean-requires c κs =

@@ -104,7 +104,7 @@ loop-again c =
       right-rise (c .before) ∙ ap (step vs) {x = i} {y = i + 1 - 1} (omega arith),
       ap₂ (λ (list : List ℤ) (m : ℤ). set list i m) (inv .4)
           (returned w32 (c .inner .ok) (c .inner .ensures)
-          ∙ inner-slope-of ks vs i (λ (e : i ≡ 0). omega (arith, inv .0)) l (inv .2) (inv .3) (right-width (c .before .before)) (right-rise (c .before)))
+          ∙ inner-slope-of ks vs i (omega (arith, inv .0)) l (inv .2) (inv .3) (right-width (c .before .before)) (right-rise (c .before)))
           ∙ put-next (builtSlope ks vs) 1 (s .slopes .now) i (inv .0),
     )
 

@@ -1,18 +1,13 @@
 -- `slopes::build` meets its contract: what no cause refuses is written at the first point, between, and at the last.
-use mathlib.Core.Path.{_≡_, _∙_, ap, ap₂}
-use mathlib.Core.List.{List}
+use mathlib.Core.Path.{_≡_, sym, _∙_, ap}
 use Prim.Native.Nat.{_-_}
-use lib.IntN.{ℤ}
-use lib.ListN.{length, set, length-set}
+use lib.ListN.{length}
 use native.Mathlib.Omega.{arith}
-use mir.Syntax.{w32}
-use mir.Val.{toZ, ofZ}
 use borrow.Author.Needs.{needs}
-use Rattle.integers.specs.Sizes.{returned}
 use Rattle.rules.specs.Order.{clear, kept, replaced}
 use Rattle.table.specs.Accepted.{PointsWithin, accepted-points, same-lengths}
 use Rattle.slopes.specs.Slopes.{builtSlope, builtSlopes}
-use Rattle.slopes.specs.Put.{put, length-put, put-ends}
+use Rattle.slopes.specs.Put.{put, length-put, tab-length, put-ends}
 use Rattle.slopes.proofs.whole.build.Statement.{statement}
 use Rattle.slopes.proofs.whole.build.Tie as tie
 
@@ -40,62 +35,76 @@ accepted c = accepted-points (c .if1 .left) (c .before .before .points .ensures)
 as-many : (c : tie.Else1) → let s = c .before .before .before .before .args in length (s .slopes .now) ≡ length (s .knots .now)
 as-many c = same-lengths (clear (c .if1 .left) (c .before .before .points .ensures)) .slopes
 
-sub-last : tie.Need-sub-last
-sub-last c = omega (arith, accepted c .count .low)
+abbrev start : tie.Else1 → tie.Start
+start c = c .before .before .before .before
 
-slope-requires : tie.Need-slope-requires
-slope-requires c κs = (accepted c, omega (arith, accepted c .count .low))
+-- where the first slope is written, and where those between are
+abbrev first : tie.After-renew → tie.Else1
+first c = c .before .before
 
-slice-set-from-slopes : tie.Need-slice-set-from-slopes
-slice-set-from-slopes c = omega (arith, accepted (c .before) .count .low, as-many (c .before))
+abbrev run : tie.After-inner → tie.After-renew
+run c = c .before .before .before
+
+renew-requires : tie.Need-renew-requires
+renew-requires c κs = let p = accepted (c .before) in (p, (as-many (c .before), (omega arith, omega (arith, p .count .low))))
+
+begun : (c : tie.After-renew) → let s = start (first c) .args in c .renew .last .1 .1 .0 ≡ put (builtSlope (s .knots .now) (s .values .now)) 0 1 (s .slopes .now)
+begun c = c .renew .ensures
 
 inner-requires : tie.Need-inner-requires
-inner-requires c κs = (accepted (c .before .before), simp length-set (as-many (c .before .before)))
+inner-requires c κs =
+    let d = c .before .before in
+    let s = start (first d) .args in
+    (accepted (first d), ap length (begun d) ∙ length-put (builtSlope (s .knots .now) (s .values .now)) 0 (s .slopes .now) 1 ∙ as-many (first d))
 
--- the first slope and those between are in their places, and the list is as long as it was
-run-over : (c : tie.After-inner) → let s = c .before .before .before .before .before .before .before .args in c .inner .last .1 .1 .0 ≡ put (builtSlope (s .knots .now) (s .values .now)) 1 (length (s .knots .now) - 2) (set (s .slopes .now) 0 (toZ w32 (ofZ w32 (c .before .before .slope .result))))
-run-over c = c .inner .ensures
-
-between : (c : tie.After-inner) → let s = c .before .before .before .before .before .before .before .args in let f = builtSlope (s .knots .now) (s .values .now) in c .inner .last .1 .1 .0 ≡ put f 1 (length (s .knots .now) - 2) (set (s .slopes .now) 0 (f 0))
+between : (c : tie.After-inner) → let s = start (first (run c)) .args in let f = builtSlope (s .knots .now) (s .values .now) in c .inner .last .1 .1 .0 ≡ put f 1 (length (s .knots .now) - 2) (put f 0 1 (s .slopes .now))
 between c =
-    let s = c .before .before .before .before .before .before .before .args in
+    let s = start (first (run c)) .args in
     let f = builtSlope (s .knots .now) (s .values .now) in
-    run-over c
-    ∙ ap (λ (m : ℤ). put f 1 (length (s .knots .now) - 2) (set (s .slopes .now) 0 m)) (returned w32 {x = f 0} (c .before .before .slope .ok) (c .before .before .slope .ensures))
+    c .inner .ensures ∙ ap (put f 1 (length (s .knots .now) - 2)) (begun (run c))
 
-full : (c : tie.After-inner) → let s = c .before .before .before .before .before .before .before .args in length (c .inner .last .1 .1 .0) ≡ length (s .slopes .now)
+-- the list is as long as it was
+full : (c : tie.After-inner) → length (c .inner .last .1 .1 .0) ≡ length (start (first (run c)) .args .slopes .now)
 full c =
-    let s = c .before .before .before .before .before .before .before .args in
+    let s = start (first (run c)) .args in
     let f = builtSlope (s .knots .now) (s .values .now) in
-    ap length (between c) ∙ length-put f 1 (set (s .slopes .now) 0 (f 0)) (length (s .knots .now) - 2) ∙ length-set (s .slopes .now) 0 (f 0)
+    ap length (between c) ∙ length-put f 1 (put f 0 1 (s .slopes .now)) (length (s .knots .now) - 2) ∙ length-put f 0 (s .slopes .now) 1
 
-slope-requires-2 : tie.Need-slope-requires-2
-slope-requires-2 c κs =
-    let p = accepted (c .before .before .before .before) in
-    (p, omega (arith, p .count .low))
+sub-renew : tie.Need-sub-renew
+sub-renew c = omega (arith, accepted (first (run (c .before .before))) .count .low)
 
-mul-t9 : tie.Need-mul-t9
-mul-t9 c = search needs
+renew-requires-2 : tie.Need-renew-requires-2
+renew-requires-2 c κs =
+    let d = first (run (c .before .before)) in (accepted d, (full (c .before .before) ∙ as-many d, (omega (arith, accepted d .count .low), omega arith)))
 
-slice-set-from-slopes-2 : tie.Need-slice-set-from-slopes-2
-slice-set-from-slopes-2 c =
-    let d = c .before .before .before .before .before in omega (arith, accepted d .count .low, as-many d, full (c .before .before))
+-- the last slope is in its place
+ended : (c : tie.After-renew2) → let d = c .before .before .before in let s = start (first (run d)) .args in let f = builtSlope (s .knots .now) (s .values .now) in let n = length (s .knots .now) in
+    c .renew2 .last .1 .1 .0 ≡ put f (n - 1) (n - (n - 1)) (put f 1 (n - 2) (put f 0 1 (s .slopes .now)))
+ended c =
+    let d = c .before .before .before in
+    let s = start (first (run d)) .args in
+    let n = length (s .knots .now) in
+    c .renew2 .ensures ∙ ap (put (builtSlope (s .knots .now) (s .values .now)) (n - 1) (n - (n - 1))) (between d)
+
+all-built : (c : tie.After-renew2) → let s = start (first (run (c .before .before .before))) .args in c .renew2 .last .1 .1 .0 ≡ builtSlopes (s .knots .now) (s .values .now)
+all-built c =
+    let d = first (run (c .before .before .before)) in
+    let s = start d .args in
+    ended c ∙ put-ends (builtSlope (s .knots .now) (s .values .now)) (s .slopes .now) (length (s .knots .now)) (accepted d .count .low) (as-many d)
 
 same-length-2 : tie.Need-same-length-2
-same-length-2 c = length-set (c .before .before .inner .last .1 .1 .0) _ _ ∙ full (c .before .before)
+same-length-2 c =
+    let d = first (run (c .before .before .before .before)) in
+    let s = start d .args in
+    ap length (all-built (c .before)) ∙ tab-length (length (s .knots .now)) (builtSlope (s .knots .now) (s .values .now)) ∙ sym (as-many d)
 
 returns-2 : tie.Need-returns-2
 returns-2 c =
-    let d = c .before .before .before .before .before in
-    let s = d .before .before .before .before .args in
-    let f = builtSlope (s .knots .now) (s .values .now) in
-    let n = length (s .knots .now) in
+    let d = first (run (c .before .before .before .before)) in
+    let s = start d .args in
     record {
       refusal = d .before .before .points .ensures;
-      slopes =
-          ap₂ (λ (list : List ℤ) (m : ℤ). set list (n - 1) m) (between (c .before .before)) (returned w32 {x = f (n - 1)} (c .slope2 .ok) (c .slope2 .ensures))
-          ∙ put-ends f (s .slopes .now) n (accepted d .count .low) (as-many d)
-          ∙ replaced (s .slopes .now) (builtSlopes (s .knots .now) (s .values .now)) (d .if1 .left);
+      slopes = all-built (c .before) ∙ replaced (s .slopes .now) (builtSlopes (s .knots .now) (s .values .now)) (d .if1 .left);
     }
 
 pub build-spec : {M : Type 1} → statement M
@@ -105,12 +114,9 @@ build-spec =
     points-requires
     same-length
     returns
-    sub-last
-    slope-requires
-    slice-set-from-slopes
+    renew-requires
     inner-requires
-    slope-requires-2
-    mul-t9
-    slice-set-from-slopes-2
+    sub-renew
+    renew-requires-2
     same-length-2
     returns-2)
