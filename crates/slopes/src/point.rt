@@ -17,10 +17,13 @@ fn is_end(i: usize, n: usize) -> bool
     if i == 0 {
         return true;
     }
-    n - i < 2
+    if n - i < 2 {
+        return true;
+    }
+    false
 }
 
-// The number of the end piece, and that of its neighbour, where point i is an end of a table of three points or more.
+// The number of the end piece, where point i is an end.
 fn end_piece(i: usize) -> usize
     ensures { λ r. ⌜ r ≡ i - 1 ⌝ }
 {
@@ -30,6 +33,7 @@ fn end_piece(i: usize) -> usize
     i - 1
 }
 
+// The number of the piece beside it, where there are three points or more.
 fn neighbour(i: usize) -> usize
     requires { ⌜ (i ≡ 1 → ⊥) ⌝ }
     ensures { λ r. ⌜ Neighbour i r ⌝ }
