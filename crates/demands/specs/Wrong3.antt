@@ -10,14 +10,12 @@ use lib.Signed.{ltZ-yes}
 use lib.ListN.{length, set}
 use Rattle.table.specs.declared.changed.Change.{Change}
 use Rattle.table.specs.Table.{Table, table, entry}
-use Rattle.table.specs.Accepted.{points-accepted}
 use Rattle.table.specs.Tested.{points-by-test}
 use Rattle.table.specs.WouldBe.{changedBy}
-use Rattle.table.specs.AfterChange.{as-changed}
 use Rattle.slopes.specs.Slopes.{builtSlopes}
 use Rattle.slopes.specs.Put.{put}
 use Rattle.change.specs.Change.{Renews, before-it, at-it, behind-it, slope-0, the-last, Changed}
-use Rattle.change.specs.Figures.{point-1-moved-onto-point-2}
+use Rattle.change.specs.Figures.{made, point-1-moved-onto-point-2}
 use Rattle.demands.specs.Demands.{Call, point, Outcome, none, next, JustThis, Demand3}
 use Rattle.demands.specs.SixteenGiven.{count, has-slopes}
 use Rattle.demands.specs.Refuting.{numbers-differ}
@@ -45,7 +43,7 @@ abbrev raised : Table
 raised = table (four .knots) (pos 0 ∷ pos 2 ∷ pos 4 ∷ pos 7 ∷ []) (pos 512 ∷ pos 512 ∷ pos 614 ∷ pos 896 ∷ [])
 
 is-raised : Changed raising four raised 0 0
-is-raised = record { refusal = as-changed raising four (lit< tt) (points-accepted (points-by-test (raised .knots) (raised .values) refl (count tt tt) tt) refl); knots = refl; values = refl; slopes = refl }
+is-raised = made raising four (lit< tt) refl (points-by-test _ _ refl (count tt tt) tt)
 
 abbrev sinking : Change
 sinking = record { point = 2; knot = pos 2; value = pos 2 }
@@ -54,7 +52,7 @@ abbrev sunk : Table
 sunk = table (four .knots) (pos 0 ∷ pos 1 ∷ pos 2 ∷ pos 7 ∷ []) (pos 256 ∷ pos 256 ∷ pos 426 ∷ pos 1792 ∷ [])
 
 is-sunk : Changed sinking four sunk 0 0
-is-sunk = record { refusal = as-changed sinking four (lit< tt) (points-accepted (points-by-test (sunk .knots) (sunk .values) refl (count tt tt) tt) refl); knots = refl; values = refl; slopes = refl }
+is-sunk = made sinking four (lit< tt) refl (points-by-test _ _ refl (count tt tt) tt)
 
 abbrev moving : Change
 moving = record { point = 3; knot = pos 4; value = pos 7 }
@@ -63,7 +61,7 @@ abbrev moved : Table
 moved = table (pos 0 ∷ pos 1 ∷ pos 2 ∷ pos 4 ∷ []) (four .values) (pos 0 ∷ pos 384 ∷ pos 531 ∷ pos 128 ∷ [])
 
 is-moved : Changed moving four moved 0 0
-is-moved = record { refusal = as-changed moving four (lit< tt) (points-accepted (points-by-test (moved .knots) (moved .values) refl (count tt tt) tt) refl); knots = refl; values = refl; slopes = refl }
+is-moved = made moving four (lit< tt) refl (points-by-test _ _ refl (count tt tt) tt)
 
 -- ======== "Each accepted change puts the new knot and value at that point, renews the slopes at it and beside it, and touches nothing else."
 
@@ -151,7 +149,7 @@ every-slope-renewed d = numbers-differ tt (to-be every-slope d [] lowering forei
     foreign = table (four .knots) (four .values) (pos 0 ∷ pos 384 ∷ pos 768 ∷ pos 1 ∷ [])
 
     changed : Changed lowering foreign (table (lowered .knots) (lowered .values) (pos 768 ∷ pos 768 ∷ pos 768 ∷ pos 1 ∷ [])) 0 0
-    changed = record { refusal = as-changed lowering foreign (lit< tt) (points-accepted lowered-within refl); knots = refl; values = refl; slopes = refl }
+    changed = made lowering foreign (lit< tt) refl lowered-within
 
 -- a list that becomes longer
 abbrev one-more : List ℤ → List ℤ
