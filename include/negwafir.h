@@ -182,9 +182,11 @@ negwafir_refusal negwafir_points(const int32_t *knots, size_t knots_length,
  *
  * PURPOSE    Makes the slopes of a table out of its points, so that every piece is monotone: by
  *            Fritsch and Butland's mean at inner points, 0 where the pieces beside one do not both
- *            rise or both fall; at the two ends by PCHIM's end rule, from the end piece and its
- *            neighbour; and, where there are two points alone, by the slope of their piece; all
- *            rounded toward 0.
+ *            rise or both fall; and at the two ends by PCHIM's end rule: for an end piece of width
+ *            h1 and rise z1 and its neighbour of width h2 and rise z2,
+ *            ((2 h1 + h2) z1/h1 - h1 z2/h2)/(h1 + h2), but 0 where that goes against z1 or z1 is
+ *            0, and no more than three times z1/h1. Two points alone have the slope of their
+ *            piece. All are rounded toward 0.
  * ARGUMENTS  knots, values  the points.
  *            slopes  takes the slopes, and is as long as the others. What it holds before does not
  *            matter.

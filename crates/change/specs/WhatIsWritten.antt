@@ -44,8 +44,8 @@ module _ {c : Change} {t u : Table} {place : ℕ} (change : Changed c t u 0 plac
       ∙ tab-entry (length (t .slopes)) (λ i. cond (isRenewed (length (t .slopes)) (c .point) i) (builtSlope (changedBy c t .knots) (changedBy c t .values) i) (entry (t .slopes) i)) i (omega (arith, l, equally-long c t refl (change .refusal) .slopes))
       ∙ ap (λ (n : ℕ). cond (isRenewed n (c .point) i) (builtSlope (changedBy c t .knots) (changedBy c t .values) i) (entry (t .slopes) i)) (equally-long c t refl (change .refusal) .slopes)
 
-  pub the-slopes-at-it-and-beside-it-are-renewed : (i : ℕ) → i < pointCount t → Renews (pointCount t) (c .point) i → entry (u .slopes) i ≡ builtSlope (u .knots) (u .values) i
-  the-slopes-at-it-and-beside-it-are-renewed i l r =
+  pub the-slopes-it-renews-are-as-built : (i : ℕ) → i < pointCount t → Renews (pointCount t) (c .point) i → entry (u .slopes) i ≡ builtSlope (u .knots) (u .values) i
+  the-slopes-it-renews-are-as-built i l r =
       slope-at i l
       ∙ sym (chosen (entry (t .slopes) i) (is-renewed (pointCount t) (c .point) i) r)
       ∙ ap₂ (λ (ks vs : List ℤ). builtSlope ks vs i) (sym (change .knots)) (sym (change .values))

@@ -10,7 +10,7 @@ use lib.Signed.{_≤ℤ_, _<ℤ_, leZ, ltZ, clashℤ, ≤ℤ-refl}
 use Rattle.integers.specs.Promise.{floorOf, magnitude, withSign, towardZero}
 use Rattle.integers.specs.Ring.{ring, quote}
 use Rattle.integers.specs.Linear.{lin, says}
-use Rattle.integers.specs.Order.{≤ℤ-or-<ℤ, ≤ℤ-<ℤ-trans, <ℤ-≤ℤ-trans, <ℤ→≤ℤ, signs, positives, 0≤-number, 0≤-minus, 0<-minus, 0≤-product, 0<-product, 0<-factor, at-most, less}
+use Rattle.integers.specs.Order.{≤ℤ-or-<ℤ, ≤ℤ-<ℤ-trans, <ℤ-≤ℤ-trans, <ℤ→≤ℤ, signs, positives, 0≤-number, 0≤-minus, 0<-minus, 0≤-product, 0<-product, 0<-factor, minus-product, at-most, less}
 use Rattle.integers.specs.Signs.{magnitude-up, magnitude-minus, signed-multiple, by-sign}
 use Rattle.integers.specs.Division.{toward-floor, toward-minus, floor-nothing}
 use Rattle.integers.specs.Decided.{chosen, passed-over, decided-≤, decided-<, decided-both}
@@ -51,11 +51,8 @@ chosen-turned false false x y = refl
 both-turned : (x y : ℤ) → negℤ x *ℤ negℤ y ≡ x *ℤ y
 both-turned x y = ring (x ∷ y ∷ []) (search quote depth 30 fits 9000) tt
 
-one-turned : (x y : ℤ) → x *ℤ negℤ y ≡ negℤ (x *ℤ y)
-one-turned x y = ring (x ∷ y ∷ []) (search quote depth 30 fits 9000) tt
-
 units-turned : (U n d : ℤ) → inUnits U (negℤ n) d ≡ negℤ (inUnits U n d)
-units-turned U n d = ap (λ (x : ℤ). towardZero x d) (one-turned U n) ∙ toward-minus (U *ℤ n) d
+units-turned U n d = ap (λ (x : ℤ). towardZero x d) (minus-product U n) ∙ toward-minus (U *ℤ n) d
 
 module _ (U h₁ z₁ h₂ z₂ : ℤ) where
   above-turned : endAbove h₁ (negℤ z₁) h₂ (negℤ z₂) ≡ negℤ (endAbove h₁ z₁ h₂ z₂)
@@ -71,7 +68,7 @@ module _ (U h₁ z₁ h₂ z₂ : ℤ) where
 
   bound-turned : inUnits U (withSign (negℤ z₁) (pos 3 *ℤ magnitude (negℤ z₁))) h₁ ≡ negℤ (inUnits U (withSign z₁ (pos 3 *ℤ magnitude z₁)) h₁)
   bound-turned =
-      ap (λ (x : ℤ). inUnits U x h₁) (signed-multiple (pos 3) (negℤ z₁) ∙ one-turned (pos 3) z₁ ∙ ap negℤ (sym (signed-multiple (pos 3) z₁)))
+      ap (λ (x : ℤ). inUnits U x h₁) (signed-multiple (pos 3) (negℤ z₁) ∙ minus-product (pos 3) z₁ ∙ ap negℤ (sym (signed-multiple (pos 3) z₁)))
       ∙ units-turned U (withSign z₁ (pos 3 *ℤ magnitude z₁)) h₁
 
   quotient-turned : inUnits U (endAbove h₁ (negℤ z₁) h₂ (negℤ z₂)) (endBelow h₁ h₂) ≡ negℤ (inUnits U (endAbove h₁ z₁ h₂ z₂) (endBelow h₁ h₂))
@@ -120,7 +117,7 @@ module _ {U h₁ z₁ h₂ : ℤ} (u₀ : pos 0 <ℤ U) (a₀ : pos 0 <ℤ h₁)
       third : {x : ℤ} → pos 0 <ℤ (pos 3 *ℤ x) → pos 0 <ℤ x
       third {x} = lin (x ∷ []) (search says depth 30 fits 9000) (omega arith)
 
-  -- it is beyond the bound; so the neighbour falls, or there is no rise at all
+  -- it is beyond the bound; so the neighbour falls, and there may be no rise
   pub rising-bound : (pos 3 *ℤ z₁ *ℤ endBelow h₁ h₂) <ℤ (endAbove h₁ z₁ h₂ z₂ *ℤ h₁) → floorOf (U *ℤ (pos 3 *ℤ z₁)) h₁ ≡ endSlope U h₁ z₁ h₂ z₂
   rising-bound q = by-sign z₁ steep (λ d. clashℤ d up) level
     where

@@ -9,7 +9,7 @@ use lib.Signed.{_≤ℤ_, _<ℤ_}
 use Rattle.integers.specs.Promise.{floorOf, magnitude, withSign}
 use Rattle.integers.specs.Ring.{ring, quote}
 use Rattle.integers.specs.Linear.{lin, says}
-use Rattle.integers.specs.Order.{≤ℤ-or-<ℤ, signs, positives, 0<-suc, 0≤-number, 0≤-product, 0<-product, <ℤ→≤ℤ, ≤ℤ-antisym, ≤ℤ-trans, ≤ℤ-cancel, at-most}
+use Rattle.integers.specs.Order.{≤ℤ-or-<ℤ, signs, positives, 0<-suc, 0≤-number, 0≤-product, 0<-product, <ℤ→≤ℤ, ≤ℤ-antisym, ≤ℤ-trans, ≤ℤ-cancel, at-most, minus-twice}
 use Rattle.integers.specs.Signs.{0<-magnitude, same-sign}
 use Rattle.integers.specs.Division.{0≤-floor, floor-low, toward-scaled}
 use Rattle.integers.specs.Parts.{<-from}
@@ -144,11 +144,8 @@ module _ {U h₁ h₂ : ℤ} (u₀ : pos 0 <ℤ U) (a₀ : pos 0 <ℤ h₁) (b�
         size = f .size;
         low = f .low;
         high = f .high;
-        signed = ap (endSlope U h₁ (negsuc k) h₂) (twice z₂) ∙ end-turned U h₁ (pos (suc k)) h₂ (negℤ z₂) ∙ ap negℤ (f .signed);
+        signed = ap (endSlope U h₁ (negsuc k) h₂) (sym (minus-twice z₂)) ∙ end-turned U h₁ (pos (suc k)) h₂ (negℤ z₂) ∙ ap negℤ (f .signed);
       }
-    where
-      twice : (x : ℤ) → x ≡ negℤ (negℤ x)
-      twice x = ring (x ∷ []) (search quote depth 30 fits 9000) tt
 
 -- ---- the mean
 
@@ -160,7 +157,7 @@ mean-mirrored U h₁ z₁ h₂ z₂ = ap₂ floorOf (above U h₁ z₁ h₂ z₂
 
 module _ {U h₁ h₂ : ℤ} (u₀ : pos 0 <ℤ U) (a : pos 0 <ℤ h₁) (b : pos 0 <ℤ h₂) where
   -- what the mean of two rises is at least and at most
-  pub 0≤-mean : {z₁ z₂ : ℤ} → pos 0 <ℤ z₁ → pos 0 <ℤ z₂ → pos 0 ≤ℤ mean U h₁ z₁ h₂ z₂
+  0≤-mean : {z₁ z₂ : ℤ} → pos 0 <ℤ z₁ → pos 0 <ℤ z₂ → pos 0 ≤ℤ mean U h₁ z₁ h₂ z₂
   0≤-mean {z₁} {z₂} p q =
       let u = <ℤ→≤ℤ u₀ in
       let c = <ℤ→≤ℤ a in
@@ -168,7 +165,7 @@ module _ {U h₁ h₂ : ℤ} (u₀ : pos 0 <ℤ U) (a : pos 0 <ℤ h₁) (b : po
       let e = <ℤ→≤ℤ p in
       let f = <ℤ→≤ℤ q in 0≤-floor (meanBelow h₁ z₁ h₂ z₂) (search signs depth 9 fits 9000)
 
-  pub mean-high : {z₁ z₂ : ℤ} → pos 0 <ℤ z₁ → pos 0 <ℤ z₂ → (mean U h₁ z₁ h₂ z₂ *ℤ h₁) ≤ℤ (pos 3 *ℤ (U *ℤ z₁))
+  mean-high : {z₁ z₂ : ℤ} → pos 0 <ℤ z₁ → pos 0 <ℤ z₂ → (mean U h₁ z₁ h₂ z₂ *ℤ h₁) ≤ℤ (pos 3 *ℤ (U *ℤ z₁))
   mean-high {z₁} {z₂} p q =
       mean-in-box {h₂ = h₂} {z₂ = z₂} (<ℤ→≤ℤ u₀) a p b q (0≤-mean p q) (floor-low (meanAbove U h₁ z₁ h₂ z₂) {d = meanBelow h₁ z₁ h₂ z₂} (search positives depth 9 fits 9000))
 

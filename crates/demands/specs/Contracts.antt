@@ -107,8 +107,8 @@ module _ (t : Table) where
     abbrev pub AskedRenewal : Type 0
     AskedRenewal = slopes·renew.Pre three (lists t (from, (to, tt)))
 
-    abbrev pub Renews : (after : List ℤ) → Type 0
-    Renews after = slopes·renew.Post three (lists t (from, (to, tt))) tt (lists-with t after (from, (to, tt)))
+    abbrev pub RenewsTo : (after : List ℤ) → Type 0
+    RenewsTo after = slopes·renew.Post three (lists t (from, (to, tt))) tt (lists-with t after (from, (to, tt)))
 
   module _ (c : Change) where
     abbrev pub ChangedPoints : (number place : ℕ) → Type 0

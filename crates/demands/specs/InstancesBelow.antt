@@ -27,7 +27,7 @@ use Rattle.replies.specs.declared.Reply.the-variants.{Done}
 use Rattle.replies.specs.Replies.{lineOf}
 use Rattle.position.specs.declared.Sought.the-variants.{On}
 use Rattle.position.specs.Spot.{on}
-use Rattle.demands.specs.Contracts.{list, SaysMonotone, HasCoefficients, Steps, Renews, Seeks}
+use Rattle.demands.specs.Contracts.{list, SaysMonotone, HasCoefficients, Steps, RenewsTo, Seeks}
 use Rattle.demands.specs.Programs.{two, four}
 use Rattle.demands.specs.Refuting.{within, in-piece}
 use Rattle.demands.specs.SixteenGiven.{count}
@@ -131,7 +131,7 @@ pub record WorkedBelow : Type 0 where
   pub is-monotone : SaysMonotone (pos 1) (pos 1) (pos 256) (pos 256) true
   pub coefficients : HasCoefficients (pos 1) (pos 1) (pos 256) (pos 256) (pos 256) (pos 0) (pos 0)
   pub step : Steps (four .values) 1 (pos 3)
-  pub renew : Renews four 0 2 (four .slopes)
+  pub renew : RenewsTo four 0 2 (four .slopes)
   pub seek : Seeks two (pos 1) (On (record { piece = 0; left = pos 0; h = pos 3; z = negsuc 9; m = negsuc 852; n = negsuc 852; t = pos 1 }))
 
 pub worked-below : WorkedBelow

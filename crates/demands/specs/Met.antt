@@ -38,7 +38,7 @@ use Rattle.curve.specs.Curve.{Evaluated}
 use Rattle.change.specs.Found.{every-change-leaves-a-table}
 use Rattle.change.specs.Change.{Changed}
 use Rattle.change.specs.Chain as Chain
-use Rattle.change.specs.WhatIsWritten.{the-point-holds-the-new-knot, the-point-holds-the-new-value, the-slopes-at-it-and-beside-it-are-renewed, no-other-knot-changes, no-other-value-changes, no-other-slope-changes}
+use Rattle.change.specs.WhatIsWritten.{the-point-holds-the-new-knot, the-point-holds-the-new-value, the-slopes-it-renews-are-as-built, no-other-knot-changes, no-other-value-changes, no-other-slope-changes}
 use Rattle.change.specs.RefusedAsABuild.{made-only-then, made-then}
 use Rattle.demands.specs.Demands.{Call, judge, points, build, check, locate, evaluate, float-answer, changed-points, point, Outcome, Implementation, orderOf, HoldsAlone, width-outside, rise-outside, CauseOf, NoneHolds, opposite-ends, LooksAt, its-points, a-build, a-check, a-piece, a-value, a-float-answer, its-changed-points, a-change, lent, MayComeIn, Demand1, CalledByItsRise, it-rises, it-falls, it-is-flat, NoSlopeAgainstItsRise, NoneAgainst, RightSlope, RightSlopes, ExactRounded, Demand2, ChainOf, none, next, JustThis, Demand3, nothing, Document01}
 use Rattle.demands.specs.Ours.{ours, ours-in-C}
@@ -191,7 +191,7 @@ just-this {c} {before} {after} {place = place} e p =
     record {
       knot = the-point-holds-the-new-knot change;
       value = the-point-holds-the-new-value change;
-      renewed-slopes = λ i l near. subst (RightSlope (after .knots) (after .values) i) (sym (the-slopes-at-it-and-beside-it-are-renewed change i l near)) (right-slope (within-then change) i);
+      renewed-slopes = λ i l near. subst (RightSlope (after .knots) (after .values) i) (sym (the-slopes-it-renews-are-as-built change i l near)) (right-slope (within-then change) i);
       other-knots = no-other-knot-changes change;
       other-values = no-other-value-changes change;
       other-slopes = no-other-slope-changes change;

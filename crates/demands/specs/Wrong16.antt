@@ -51,7 +51,7 @@ not-by-an-idle-builder s =
     let before = pos 0 ∷ pos 0 ∷ pos 0 ∷ [] in
     numbers-differ tt (ap (λ (slopes : List ℤ). entry slopes 1) (case (s .each-is-given) 12 before refl .1 (outcome 0 0 tt (pos 0 ∷ pos 0 ∷ pos 0 ∷ [])) (points-accepted three-within refl, refl) .2))
 
--- and so not by the rule that document 01 had at the ends
+-- and so not by the rule that document 01 had, at the first end
 pub not-by-the-old-end-rule : TheSixteen (answering (at-the-first secant)) → ⊥
 not-by-the-old-end-rule s =
     let before = pos 0 ∷ pos 0 ∷ pos 0 ∷ [] in

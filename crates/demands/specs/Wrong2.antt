@@ -283,7 +283,7 @@ as-a-rise h z m n t = withSign z (risen unit h (magnitude z) (magnitude m) (magn
 pub a-fall-as-the-mirror-of-the-rise : Demand2 (answering (valued-by (plus as-a-rise))) → ⊥
 a-fall-as-the-mirror-of-the-rise d = numbers-differ tt (half-a-fall (plus as-a-rise) d)
 
--- the two slopes exchanged: (0,0), (4,4), (8,400) have 1 at position 1, and not 2
+-- the two slopes exchanged: (0,0), (4,4), (8,400) have 0 at position 1, and not 2
 abbrev pub mirrored : (h z m n t : ℤ) → ℤ
 mirrored h z m n t = risen unit h z n m t
 

@@ -99,26 +99,6 @@ the-old-slope-before-it made c t u = table (u .knots) (u .values) (set (u .slope
 pub the-slope-before-it-not-renewed : Demand3 (answering (leaving the-old-slope-before-it)) → ⊥
 the-slope-before-it-not-renewed d = to-be the-old-slope-before-it d [] raising four is-raised .renewed-slopes 0 (lit< tt) (before-it refl) .first refl (lit< tt) .otherwise (ltZ-yes tt) (λ l. absurd (l .lt)) .size .high .lt
 
--- ======== "a change of point 2 also renews slope 0, and a change of the third point from the end also renews the last slope"
-
--- a change that renews the slopes at the point and beside it alone, as it was right until request 2: of point 2 it leaves slope 0, and of point 1, the third of four from the end, the last
-abbrev pub these-three-alone : List Change → Change → (before ours : Table) → Table
-these-three-alone made c t u = table (u .knots) (u .values) (put (entry (u .slopes)) (c .point - 1) (min (c .point + 2) (length (t .slopes)) - (c .point - 1)) (t .slopes))
-
-pub slope-0-left-by-a-change-of-point-2 : Demand3 (answering (leaving these-three-alone)) → ⊥
-slope-0-left-by-a-change-of-point-2 d = to-be these-three-alone d [] sinking four is-sunk .renewed-slopes 0 (lit< tt) (slope-0 refl refl) .first refl (lit< tt) .otherwise (ltZ-yes tt) (λ l. absurd (l .lt)) .size .high .lt
-
-pub the-last-slope-left-by-a-change-of-the-third-point-from-the-end : Demand3 (answering (leaving these-three-alone)) → ⊥
-the-last-slope-left-by-a-change-of-the-third-point-from-the-end d =
-    to-be these-three-alone d [] raising four is-raised .renewed-slopes 3 (lit< tt) (the-last refl refl) .last 1 refl refl .otherwise (ltZ-yes tt) (λ l. absurd (l .lt)) .size .high .lt
-
--- and so it does not leave what a build does
-pub slopes-at-the-ends-that-are-not-those-built-afresh : Demand3 (answering (leaving these-three-alone)) → ⊥
-slopes-at-the-ends-that-are-not-those-built-afresh d =
-    let left = these-three-alone [] sinking four sunk in
-    numbers-differ tt (ap (λ (slopes : List ℤ). entry slopes 0) (d .the-slopes-equal-those-built-afresh {t = four} {o = outcome 0 0 tt (four .slopes)} {changes = sinking ∷ []} {u = left} {again = four .slopes} {p = outcome 0 0 tt (sunk .slopes)}
-    (four-built (four .slopes) refl) refl (next {o = outcome 0 0 tt left} (sunk, (is-sunk, refl)) none) refl (has-slopes (points-by-test _ _ refl (count tt tt) tt) refl refl) .1))
-
 abbrev pub the-last-knot-too : List Change → Change → (before ours : Table) → Table
 the-last-knot-too made c t u = table (set (u .knots) 3 (pos 9)) (u .values) (u .slopes)
 
@@ -173,6 +153,19 @@ one-more-slope made c t u = table (u .knots) (u .values) (one-more (u .slopes))
 pub a-slope-added : Demand3 (answering (leaving one-more-slope)) → ⊥
 a-slope-added d = absurd (omega (arith, to-be one-more-slope d [] lowering four is-lowered .as-many-slopes))
 
+-- ======== "a change of point 2 also renews slope 0, and a change of the third point from the end also renews the last slope"
+
+-- a change that renews the slopes at the point and beside it alone, as it was right until request 2: of point 2 it leaves slope 0, and of point 1, the third of four from the end, the last
+abbrev pub these-three-alone : List Change → Change → (before ours : Table) → Table
+these-three-alone made c t u = table (u .knots) (u .values) (put (entry (u .slopes)) (c .point - 1) (min (c .point + 2) (length (t .slopes)) - (c .point - 1)) (t .slopes))
+
+pub slope-0-left-by-a-change-of-point-2 : Demand3 (answering (leaving these-three-alone)) → ⊥
+slope-0-left-by-a-change-of-point-2 d = to-be these-three-alone d [] sinking four is-sunk .renewed-slopes 0 (lit< tt) (slope-0 refl refl) .first refl (lit< tt) .otherwise (ltZ-yes tt) (λ l. absurd (l .lt)) .size .high .lt
+
+pub the-last-slope-left-by-a-change-of-the-third-point-from-the-end : Demand3 (answering (leaving these-three-alone)) → ⊥
+the-last-slope-left-by-a-change-of-the-third-point-from-the-end d =
+    to-be these-three-alone d [] raising four is-raised .renewed-slopes 3 (lit< tt) (the-last refl refl) .last 1 refl refl .otherwise (ltZ-yes tt) (λ l. absurd (l .lt)) .size .high .lt
+
 -- ======== "the slopes then equal those built afresh from the points as they stand"
 
 -- renewing only the slope of the changed point again: a build, that change, and a build of the points as they then stand
@@ -181,6 +174,13 @@ slopes-that-are-not-those-built-afresh d =
     let left = its-slope-alone [] lowering four lowered in
     numbers-differ tt (ap (λ (slopes : List ℤ). entry slopes 1) (d .the-slopes-equal-those-built-afresh {t = four} {o = outcome 0 0 tt (four .slopes)} {changes = lowering ∷ []} {u = left} {again = four .slopes} {p = outcome 0 0 tt (lowered .slopes)}
     (four-built (four .slopes) refl) refl (next {o = outcome 0 0 tt left} (lowered, (is-lowered, refl)) none) refl (lowered-built (four .slopes) refl) .1))
+
+-- renewing the slopes at it and beside it alone
+pub slopes-at-the-ends-that-are-not-those-built-afresh : Demand3 (answering (leaving these-three-alone)) → ⊥
+slopes-at-the-ends-that-are-not-those-built-afresh d =
+    let left = these-three-alone [] sinking four sunk in
+    numbers-differ tt (ap (λ (slopes : List ℤ). entry slopes 0) (d .the-slopes-equal-those-built-afresh {t = four} {o = outcome 0 0 tt (four .slopes)} {changes = sinking ∷ []} {u = left} {again = four .slopes} {p = outcome 0 0 tt (sunk .slopes)}
+    (four-built (four .slopes) refl) refl (next {o = outcome 0 0 tt left} (sunk, (is-sunk, refl)) none) refl (has-slopes (points-by-test _ _ refl (count tt tt) tt) refl refl) .1))
 
 -- the same from the second change on: the first, of point 1 onto point 2, is refused
 abbrev pub from-the-second-on : List Change → Change → (before ours : Table) → Table

@@ -1,17 +1,25 @@
 -- Wrong programs that break the second demand at an end of a table, where request 2 of document 02 gives the rule, each ours but for what is said of it.
-use mathlib.Core.Path.{_≡_, refl}
+use mathlib.Core.Path.{_≡_, refl, _∙_, ap}
 use mathlib.Core.Bool.{Bool, false, cond, _&&_, _||_}
-use mathlib.Core.List.{[], _∷_}
-use lib.Dec.{lit<}
+use mathlib.Core.Logic.{⊎-elim}
+use mathlib.Core.List.{List, [], _∷_}
+use Prim.Native.Nat.{ℕ, zero, suc, _-_, _≤_, _<_}
+use native.Mathlib.Omega.{arith}
+use lib.Dec.{ltb, lit<}
 use lib.IntN.{ℤ, pos, negsuc, _+ℤ_, _-ℤ_, _*ℤ_}
 use lib.Signed.{ltZ}
+use lib.ListN.{length, set}
+use borrow.Author.Tests.{lt-ltb, le-ltb}
 use Rattle.integers.specs.Promise.{floorOf, magnitude, withSign, towardZero}
+use Rattle.integers.specs.Order.{<-or-≤}
 use Rattle.cubic.specs.Piece.{unit}
 use Rattle.cubic.specs.Slopes.{endAbove, endBelow, zeroOrOpposed, beyondTheBound, inUnits, endSlope, secantSlope}
 use Rattle.rules.specs.Known.{0<-width}
-use Rattle.table.specs.Table.{table, step}
+use Rattle.table.specs.Table.{Table, table, step}
 use Rattle.table.specs.Accepted.{PointsWithin}
 use Rattle.table.specs.Tested.{points-by-test}
+use Rattle.slopes.specs.Slopes.{endAt, tab, builtSlope, builtSlopes}
+use Rattle.slopes.specs.Cases.{first-slope, last-slope}
 use Rattle.demands.specs.Demands.{Call, Outcome, Demand2}
 use Rattle.demands.specs.Rules.{end-rule, one-end}
 use Rattle.demands.specs.SixteenGiven.{count}
@@ -21,12 +29,48 @@ use Rattle.demands.specs.Wrong2.{leaving, but-at, left}
 
 -- ======== "With three or more points use PCHIM's end rule"
 
--- a builder that is ours but for the slope at the first point, which it makes in some way of the end piece and its neighbour; and one that is so at the last of three
+-- a slope that is made in some way of the end piece and its neighbour, where there are three points or more; of two points ours
+abbrev from-three-on : Table → (wrong ours : ℤ) → ℤ
+from-three-on t wrong ours = cond (ltb 2 (length (t .knots))) wrong ours
+
+-- a builder that is ours but for the slope at the first point, and one that is ours but for that at the last, of which the slope is so made
+abbrev pub but-the-first : ((h₁ z₁ h₂ z₂ : ℤ) → ℤ) → Table → List ℤ
+but-the-first slope t = but-at 0 (λ t. from-three-on t (slope (step (t .knots) 0) (step (t .values) 0) (step (t .knots) 1) (step (t .values) 1)) (builtSlope (t .knots) (t .values) 0)) t
+
+abbrev pub but-the-last : ((h₁ z₁ h₂ z₂ : ℤ) → ℤ) → Table → List ℤ
+but-the-last slope t =
+    let i = length (t .knots) - 1 in
+    but-at i (λ t. from-three-on t (slope (step (t .knots) (i - 1)) (step (t .values) (i - 1)) (step (t .knots) (i - 2)) (step (t .values) (i - 2))) (builtSlope (t .knots) (t .values) i)) t
+
 abbrev pub at-the-first : ((h₁ z₁ h₂ z₂ : ℤ) → ℤ) → (call : Call) → Outcome call → Type 0
-at-the-first slope = leaving (but-at 0 (λ t. slope (step (t .knots) 0) (step (t .values) 0) (step (t .knots) 1) (step (t .values) 1)))
+at-the-first slope = leaving (but-the-first slope)
 
 abbrev pub at-the-last : ((h₁ z₁ h₂ z₂ : ℤ) → ℤ) → (call : Call) → Outcome call → Type 0
-at-the-last slope = leaving (but-at 2 (λ t. slope (step (t .knots) 1) (step (t .values) 1) (step (t .knots) 0) (step (t .values) 0)))
+at-the-last slope = leaving (but-the-last slope)
+
+-- and one that is ours but for the first of two points
+abbrev pub of-two-points : (Table → ℤ) → (call : Call) → Outcome call → Type 0
+of-two-points slope = leaving (but-at 0 (λ t. from-three-on t (builtSlope (t .knots) (t .values) 0) (slope t)))
+
+-- with the rule itself the first two are ours: whatever table comes in, they leave the same slopes
+itself : (n : ℕ) (f : ℕ → ℤ) (i : ℕ) {s : ℤ} → s ≡ f i → set (tab n f) i s ≡ tab n f
+itself zero f i e = refl
+itself (suc n) f zero e = ap (λ (s : ℤ). s ∷ tab n (λ j. f (suc j))) e
+itself (suc n) f (suc i) e = ap (λ (list : List ℤ). f 0 ∷ list) (itself n (λ j. f (suc j)) i e)
+
+guarded : (t : Table) (i : ℕ) (rule : ℤ) → (2 < length (t .knots) → rule ≡ builtSlope (t .knots) (t .values) i) → from-three-on t rule (builtSlope (t .knots) (t .values) i) ≡ builtSlope (t .knots) (t .values) i
+guarded t i rule is = ⊎-elim (λ n. chosen-by (lt-ltb 2 (length (t .knots)) n) ∙ is n) (λ n. chosen-by (le-ltb 2 (length (t .knots)) n)) (<-or-≤ 2 (length (t .knots)))
+  where
+    chosen-by : {b : Bool} → ltb 2 (length (t .knots)) ≡ b → from-three-on t rule (builtSlope (t .knots) (t .values) i) ≡ cond b rule (builtSlope (t .knots) (t .values) i)
+    chosen-by = ap (λ (b : Bool). cond b rule (builtSlope (t .knots) (t .values) i))
+
+pub the-rule-at-the-first-end-is-ours : (t : Table) → but-the-first (endSlope unit) t ≡ builtSlopes (t .knots) (t .values)
+the-rule-at-the-first-end-is-ours t = itself (length (t .knots)) (builtSlope (t .knots) (t .values)) 0 (guarded t 0 (endAt (t .knots) (t .values) 0 1) (first-slope (t .knots) (t .values) 0 refl))
+
+pub the-rule-at-the-last-end-is-ours : (t : Table) → but-the-last (endSlope unit) t ≡ builtSlopes (t .knots) (t .values)
+the-rule-at-the-last-end-is-ours t =
+    let i = length (t .knots) - 1 in
+    itself (length (t .knots)) (builtSlope (t .knots) (t .values)) i (guarded t i (endAt (t .knots) (t .values) (i - 1) (i - 2)) (λ n. last-slope (t .knots) (t .values) i (omega (arith, n)) (omega (arith, n))))
 
 -- of three points it is to leave what ours does
 module _ (slope : (h₁ z₁ h₂ z₂ : ℤ) → ℤ) (x₀ x₁ x₂ v₀ v₁ v₂ : ℤ) (p : PointsWithin (x₀ ∷ x₁ ∷ x₂ ∷ []) (v₀ ∷ v₁ ∷ v₂ ∷ [])) where
@@ -157,12 +201,12 @@ an-end-slope-rounded-down d = numbers-differ tt (the-first down (pos 0) (pos 1) 
 -- ======== "Two points keep the secant."
 
 -- (0,0), (3,−10): rounded down, −854; and without its sign, 853
-pub a-secant-rounded-down : Demand2 (answering (leaving (but-at 0 (λ t. floorOf (unit *ℤ step (t .values) 0) (step (t .knots) 0))))) → ⊥
+pub a-secant-rounded-down : Demand2 (answering (of-two-points (λ t. floorOf (unit *ℤ step (t .values) 0) (step (t .knots) 0)))) → ⊥
 a-secant-rounded-down d = left d two two-within refl .each 0 (lit< tt) .of-two refl .size .low .le
 
-pub a-secant-without-its-sign : Demand2 (answering (leaving (but-at 0 (λ t. floorOf (unit *ℤ magnitude (step (t .values) 0)) (step (t .knots) 0))))) → ⊥
+pub a-secant-without-its-sign : Demand2 (answering (of-two-points (λ t. floorOf (unit *ℤ magnitude (step (t .values) 0)) (step (t .knots) 0)))) → ⊥
 a-secant-without-its-sign d = numbers-differ tt (left d two two-within refl .each 0 (lit< tt) .of-two refl .sign)
 
 -- the end rule where there is no neighbour, taken for one that is level: 3/2 of the secant, −1280
-pub the-end-rule-at-two-points : Demand2 (answering (leaving (but-at 0 (λ t. endSlope unit (step (t .knots) 0) (step (t .values) 0) (step (t .knots) 0) (pos 0))))) → ⊥
+pub the-end-rule-at-two-points : Demand2 (answering (of-two-points (λ t. endSlope unit (step (t .knots) 0) (step (t .values) 0) (step (t .knots) 0) (pos 0)))) → ⊥
 the-end-rule-at-two-points d = left d two two-within refl .each 0 (lit< tt) .of-two refl .size .low .le

@@ -25,7 +25,7 @@ use Rattle.position.specs.Spot.{sought-outside, sought-on}
 use Rattle.position.specs.Refused.{accepted-at}
 use Rattle.curve.specs.Curve.{valueOn, Evaluated}
 use Rattle.demands.specs.SixteenGiven.{count, has-slopes}
-use Rattle.demands.specs.Contracts.{PointsAnswer, PointsAnswerC, Checks, ChecksC, Builds, BuildsC, AskedRenewal, Renews, ChangedPoints, ChangedPointsC, Changes, ChangesC, AskedStep, Steps, Locates, LocatesC, AskedSeek, Seeks, Evaluates, EvaluatesC}
+use Rattle.demands.specs.Contracts.{PointsAnswer, PointsAnswerC, Checks, ChecksC, Builds, BuildsC, AskedRenewal, RenewsTo, ChangedPoints, ChangedPointsC, Changes, ChangesC, AskedStep, Steps, Locates, LocatesC, AskedSeek, Seeks, Evaluates, EvaluatesC}
 use Rattle.demands.specs.Refuting.{within, overlooked, so-it-holds, too-narrow, too-high, against-its-rise, below-the-line, in-piece, no-bad-width, no-bad-rise, no-bend, no-bad-width-then, the-point-is-there, no-bend-there, not-outside, answers-nothing, numbers-differ, lists-differ}
 
 abbrev 0-1 : List ℤ
@@ -189,7 +189,7 @@ the-last-slope-left-as-it-was p = lists-differ tt (p .slopes)
 pub the-last-inner-slope-left-as-it-was : Builds (table 0-1-2-3 0-1-4-7 0-0-0-0) 0 0 (pos 0 ∷ pos 384 ∷ pos 0 ∷ pos 768 ∷ []) → ⊥
 the-last-inner-slope-left-as-it-was p = lists-differ tt (p .slopes)
 
-pub the-first-slope-everywhere : Builds (table 0-1-2 0-1-4 0-0-0) 0 0 0-0-0 → ⊥
+pub the-first-slope-everywhere : Builds (table 0-1-2 0-1-4 (pos 1 ∷ pos 1 ∷ pos 1 ∷ [])) 0 0 0-0-0 → ⊥
 the-first-slope-everywhere p = lists-differ tt (p .slopes)
 
 -- 1024 at the first point, and not 0
@@ -248,7 +248,7 @@ values-for-knots p = no-bad-width (within tt tt) (so-it-holds (p .refusal))
 -- ---- `renew`: the slopes of a range
 
 abbrev pub RenewsNot : (t : Table) (from to : ℕ) (after : List ℤ) → Type 0
-RenewsNot t from to after = AskedRenewal t from to × (Renews t from to after → ⊥)
+RenewsNot t from to after = AskedRenewal t from to × (RenewsTo t from to after → ⊥)
 
 pub no-slope-renewed : RenewsNot (table 0-1 0-1 0-0) 0 2 0-0
 no-slope-renewed = ((points-by-test 0-1 0-1 refl (count tt tt) tt, (refl, (lit≤ tt, lit≤ tt))), λ e. lists-differ tt e)

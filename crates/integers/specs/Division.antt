@@ -11,7 +11,7 @@ use mir.Val.{SFits, ofZ}
 use Rattle.integers.specs.Promise.{Floor, floorOf, magnitude, withSign, towardZero}
 use Rattle.integers.specs.Ring.{ring, quote}
 use Rattle.integers.specs.Linear.{lin, says}
-use Rattle.integers.specs.Order.{≤ℤ-<ℤ-trans, ≤ℤ-trans, ≤ℤ-antisym, <ℤ-cancel, pos-≤, 0≤-number, 0<-suc}
+use Rattle.integers.specs.Order.{≤ℤ-<ℤ-trans, ≤ℤ-trans, ≤ℤ-antisym, <ℤ-cancel, minus-twice, pos-≤, 0≤-number, 0<-suc}
 use Rattle.integers.specs.Within.{natAbs-minus}
 use Rattle.integers.specs.Parts.{≤-to, ≤-from, <-from, <-to, from-parts, diff-neg, diff-add, diff-self}
 
@@ -215,7 +215,4 @@ floor-nothing d = ≤ℤ-antisym (floor-at-most d (0≤-number 0)) (0≤-floor d
 pub toward-minus : (n d : ℤ) → towardZero (negℤ n) d ≡ negℤ (towardZero n d)
 toward-minus (pos zero) d = floor-nothing d ∙ ap negℤ (sym (floor-nothing d))
 toward-minus (pos (suc n)) d = refl
-toward-minus (negsuc n) d = sym (twice (floorOf (pos (suc n)) d))
-  where
-    twice : (x : ℤ) → negℤ (negℤ x) ≡ x
-    twice x = ring (x ∷ []) (search quote depth 30 fits 9000) tt
+toward-minus (negsuc n) d = sym (minus-twice (floorOf (pos (suc n)) d))

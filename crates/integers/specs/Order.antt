@@ -34,6 +34,14 @@ pub ≤ℤ-antisym : {x y : ℤ} → x ≤ℤ y → y ≤ℤ x → x ≡ y
 pub across : (l r : ℤ) → l +ℤ (r -ℤ l) ≡ r
 across l r = lin (l ∷ r ∷ []) (search says depth 30 fits 9000) (omega arith)
 
+-- turned over twice
+pub minus-twice : (x : ℤ) → negℤ (negℤ x) ≡ x
+minus-twice x = lin (x ∷ []) (search says depth 30 fits 9000) (omega arith)
+
+-- a product with one factor turned over
+pub minus-product : (x y : ℤ) → x *ℤ negℤ y ≡ negℤ (x *ℤ y)
+minus-product x y = ring (x ∷ y ∷ []) (search quote depth 30 fits 9000) tt
+
 -- the naturals' order is the same
 pub pos-≤ : {m n : ℕ} → m ≤ n → pos m ≤ℤ pos n
 pos-≤ {m} {n} h = ≤-from (pos m) (pos n) (omega arith)

@@ -1,8 +1,8 @@
 // The slope at a point, from the pieces beside it.
 ghost use mathlib.Core.Path.{_≡_};
-ghost use Rattle.cubic.specs.Piece.{unit};
 ghost use lib.IntN.{pos};
 ghost use lib.Signed.{_≤ℤ_};
+ghost use Rattle.cubic.specs.Piece.{unit};
 ghost use Rattle.cubic.specs.Slopes.{secantSlope, endSlope, innerSlope};
 ghost use Rattle.slopes.specs.Sizes.{PieceWithin, Up, Mean, End};
 

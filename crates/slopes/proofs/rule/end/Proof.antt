@@ -4,9 +4,8 @@ use mathlib.Core.List.{List, [], _∷_}
 use lib.IntN.{ℤ, pos, negℤ}
 use lib.Signed.{_≤ℤ_}
 use mir.Facts.{toZ-ofZ}
-use Rattle.integers.specs.Ring.{ring, quote}
 use Rattle.integers.specs.Within.{Within}
-use Rattle.integers.specs.Order.{0≤-minus, <ℤ→≤ℤ}
+use Rattle.integers.specs.Order.{0≤-minus, <ℤ→≤ℤ, minus-twice}
 use Rattle.integers.specs.Sizes.{Known, known, fits, plain-is, code}
 use Rattle.integers.specs.Tests.{tests, passed, failed}
 use Rattle.integers.specs.Arguments.{arguments, plainly₄, as-coded₁, as-coded₂}
@@ -64,10 +63,7 @@ returns c =
     plain-is {Γ = steepness c} (search code depth 30 fits 9000) tt
     ∙ ap negℤ (fallen c)
     ∙ sym (end-turned unit (s .h1) (negℤ (s .z1)) (s .h2) (negℤ (s .z2)))
-    ∙ ap₂ (λ (z₁ z₂ : ℤ). endSlope unit (s .h1) z₁ (s .h2) z₂) (twice (s .z1)) (twice (s .z2))
-  where
-    twice : (x : ℤ) → negℤ (negℤ x) ≡ x
-    twice x = ring (x ∷ []) (search quote depth 30 fits 9000) tt
+    ∙ ap₂ (λ (z₁ z₂ : ℤ). endSlope unit (s .h1) z₁ (s .h2) z₂) (minus-twice (s .z1)) (minus-twice (s .z2))
 
 -- ---- any other
 
