@@ -16,7 +16,7 @@ AFTER = {b"build": b"show slopes\n", b"change": b"show knots\nshow values\nshow 
 
 def few_cases():
     """Of each command and each form of its answer the first lines, each with the lists that it needs before it."""
-    few, seen, lent = [cases.FIRST_EXAMPLE.read_bytes(), *unlike_pieces(), *unlike_ends()], Counter(), {}
+    few, seen, lent = [cases.FIRST_EXAMPLE.read_bytes(), *unlike_pieces(), *unlike_ends(), *left_behind()], Counter(), {}
     for line, lists, answer in answered_lines():
         command = reference.words_of(line)[0]
         form = command, re.sub("[0-9]+", "", answer)
@@ -46,6 +46,12 @@ def unlike_ends():
     yield from (line + b"show slopes\n" for line in (b"change 3 6 29\n", b"change 4 8 33\n"))
     yield b"knots 0 3\nvalues 0 9\nslopes 1 2\n"
     yield from (line + b"show slopes\n" for line in (b"change 0 1 9\n", b"change 1 3 -10\n"))
+
+
+def left_behind():
+    """Two points where three stood, the third at the end of 32 bits: a build that reads on past the lists comes to numbers that do not fit."""
+    yield b"knots 0 1 2147483647\nvalues 0 1 2147483647\nslopes 0 0 0\n"
+    yield b"knots 0 1\nvalues 0 1\nslopes 0 0\nbuild\nshow slopes\n"
 
 
 def answered_lines():
