@@ -11,6 +11,9 @@ use position::Place;
 use rules::Refusal;
 use words::Word;
 
+// Slopes are in 1/2^8 of a value per count.
+const S: u32 = 8;
+
 const KNOTS: [i32; 3] = [0, 2, 5];
 
 const VALUES: [i32; 3] = [7, 9, 9];
@@ -191,8 +194,8 @@ fn appended(held: usize, more: &[u8]) {
 // ---- a table that is accepted, at positions in it and outside, and with values that it is refused for
 
 fn tables(knots: &[i32], values: &[i32], slopes: &[i32], bend: &[i32]) {
-    given(b"points # # \n", table::points(knots, values, slopes));
-    given(b"check # # \n", table::check(knots, values, slopes));
+    given(b"points # # \n", table::points(S, knots, values, slopes));
+    given(b"check # # \n", table::check(S, knots, values, slopes));
     at_each(knots, values, slopes, &POSITIONS);
     at(knots, bend, slopes, 3);
 }
@@ -213,11 +216,11 @@ fn at_each(knots: &[i32], values: &[i32], slopes: &[i32], positions: &[i32]) {
 // The refusal's number and place stand behind the position, and then what is answered.
 fn at(knots: &[i32], values: &[i32], slopes: &[i32], position: i32) {
     whole32(b"locate # ", position);
-    located(position::locate(knots, values, slopes, position));
+    located(position::locate(S, knots, values, slopes, position));
     whole32(b"evaluate # ", position);
-    valued(curve::evaluate(knots, values, slopes, position));
+    valued(curve::evaluate(S, knots, values, slopes, position));
     whole32(b"float_answer # ", position);
-    driven(drive::float_answer(knots, values, slopes, position));
+    driven(drive::float_answer(S, knots, values, slopes, position));
 }
 
 fn located(place: Place) {
@@ -329,7 +332,7 @@ fn piece_at_each(knots: &[i32], level: &[i32], points: usize)
 fn piece_at(knots: &[i32], level: &[i32], points: usize, position: i32) {
     whole32(b"locate # ", position);
     naturals(b"of # points ", points, 0, 0);
-    located(position::locate(knots, level, level, position));
+    located(position::locate(S, knots, level, level, position));
 }
 
 // ---- what is written. A template that has no place for a text is handed on as the text too.

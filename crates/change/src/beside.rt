@@ -2,6 +2,7 @@
 ghost use mathlib.Core.Path.{_≡_};
 ghost use Prim.Native.Nat.{_<_};
 ghost use lib.ListN.{length};
+ghost use Rattle.rules.specs.Known.{UnitSize};
 ghost use Rattle.table.specs.Accepted.{PointsWithin};
 ghost use Rattle.slopes.specs.Slopes.{builtSlope};
 ghost use Rattle.change.specs.Change.{renewed};
@@ -29,11 +30,12 @@ fn end(k: usize, n: usize) -> usize
 }
 
 // Puts the slopes of these points into their places, as a build does.
-pub(crate) fn renew(knots: &[i32], values: &[i32], slopes: &mut [i32], k: usize)
+pub(crate) fn renew(unit: i64, knots: &[i32], values: &[i32], slopes: &mut [i32], k: usize)
+    requires { ⌜ UnitSize unit ⌝ }
     requires { ⌜ PointsWithin (now knots) (now values) ⌝ }
     requires { ⌜ length (now slopes) ≡ length (now knots) ⌝ }
     requires { ⌜ k < length (now knots) ⌝ }
-    ensures { λ _. ⌜ now (slopes .exit) ≡ renewed k (builtSlope (now (knots .entry)) (now (values .entry))) (now (slopes .entry)) ⌝ }
+    ensures { λ _. ⌜ now (slopes .exit) ≡ renewed k (builtSlope unit (now (knots .entry)) (now (values .entry))) (now (slopes .entry)) ⌝ }
 {
-    slopes::renew(knots, values, slopes, first(k), end(k, knots.len()));
+    slopes::renew(unit, knots, values, slopes, first(k), end(k, knots.len()));
 }

@@ -5,12 +5,8 @@ use Prim.Native.Nat.{ℕ, _≤_}
 use lib.IntN.{ℤ, pos, negℤ, _+ℤ_, _-ℤ_, _*ℤ_}
 use lib.Signed.{_≤ℤ_, _<ℤ_}
 
--- Slopes are in units of 1/256 of a value per count.
-abbrev pub unit : ℤ
-unit = pos 256
-
 -- "a·q² + 2·(3Z − 2a − b)·k·q + 3·(a + b − 2Z)·k²": the cubic's slope at the fraction k/q of the width h, times
--- U·h·q², where U is the slope unit.
+-- U·h·q², where U is the slope unit: slopes are in units of 1/U of a value per count.
 abbrev pub slopeAt : (Z a b k q : ℤ) → ℤ
 slopeAt Z a b k q =
     a *ℤ (q *ℤ q) +ℤ pos 2 *ℤ (pos 3 *ℤ Z -ℤ pos 2 *ℤ a -ℤ b) *ℤ (k *ℤ q) +ℤ pos 3 *ℤ (a +ℤ b -ℤ pos 2 *ℤ Z) *ℤ (k *ℤ k)

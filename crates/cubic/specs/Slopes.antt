@@ -1,5 +1,5 @@
 -- "Slopes that are built" of the exact rules, from the pieces beside a point, as they are written there and, for the ends, in request 2 of document 02. Whoever believes a
--- promise about built slopes believes this file. U is the slope unit, 256 in the exact rules. Products go before sums.
+-- promise about built slopes believes this file. U is the slope unit, for which document 01 and request 2 have 256, and 768 for 3·U. Products go before sums.
 use mathlib.Core.Bool.{Bool, cond, _&&_}
 use lib.IntN.{ℤ, pos, _+ℤ_, _-ℤ_, _*ℤ_}
 use lib.Signed.{leZ, ltZ}
@@ -20,7 +20,7 @@ zeroOrOpposed h₁ z₁ h₂ z₂ = leZ (endAbove h₁ z₁ h₂ z₂ *ℤ z₁)
 abbrev pub beyondTheBound : (h₁ z₁ h₂ z₂ : ℤ) → Bool
 beyondTheBound h₁ z₁ h₂ z₂ = ltZ (z₁ *ℤ z₂) (pos 0) && ltZ (pos 3 *ℤ magnitude z₁ *ℤ endBelow h₁ h₂) (magnitude (endAbove h₁ z₁ h₂ z₂) *ℤ h₁)
 
--- "Times 256, rounded toward zero once, at the end": of above/below
+-- "Times 256, rounded toward zero once, at the end": of above/below, where 256 is the unit
 abbrev pub inUnits : (U above below : ℤ) → ℤ
 inUnits U above below = towardZero (U *ℤ above) below
 

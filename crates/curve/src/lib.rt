@@ -3,7 +3,6 @@ ghost use mathlib.Core.Path.{_≡_};
 ghost use lib.IntN.{_+ℤ_};
 ghost use mir.Syntax.{w32};
 ghost use mir.Val.{SFits};
-ghost use Rattle.cubic.specs.Piece.{unit};
 ghost use Rattle.cubic.specs.Value.{risen};
 ghost use Rattle.table.specs.Table.{table};
 ghost use Rattle.position.specs.Spot.{InPiece};
@@ -23,21 +22,21 @@ pub struct Value {
 }
 
 // The value in a piece: the left value, and what the curve has risen by since. It lies between the piece's two values, so that it fits.
-fn value_on(s: Spot) -> i32
-    requires { ⌜ InPiece (s .h) (s .z) (s .m) (s .n) (s .t) ⌝ }
-    requires { ⌜ SFits w32 (s .left +ℤ s .z) ⌝ }
-    ensures { λ r. ⌜ r ≡ s .left +ℤ risen unit (s .h) (s .z) (s .m) (s .n) (s .t) ⌝ }
+fn value_on(unit: i64, p: Spot) -> i32
+    requires { ⌜ InPiece unit (p .h) (p .z) (p .m) (p .n) (p .t) ⌝ }
+    requires { ⌜ SFits w32 (p .left +ℤ p .z) ⌝ }
+    ensures { λ r. ⌜ r ≡ p .left +ℤ risen unit (p .h) (p .z) (p .m) (p .n) (p .t) ⌝ }
 {
-    let risen = rise::risen(s.h, s.z, s.m, s.n, s.t);
-    ((s.left as i64) + risen) as i32
+    let risen = rise::risen(unit, p.h, p.z, p.m, p.n, p.t);
+    ((p.left as i64) + risen) as i32
 }
 
-// The value of the curve at a position, rounded to the nearest whole number, a half going up, or the refusal, in the order 1, 2, 3, 4, 5, 6: the whole table
+// The value of the curve at a position, rounded to the nearest whole number, a half going up, or the refusal, in the order 12, 1, 2, 3, 4, 5, 6: the whole table
 // is checked first, whatever slopes it has and wherever the position lies.
-pub fn evaluate(knots: &[i32], values: &[i32], slopes: &[i32], position: i32) -> Value
-    ensures { λ r. ⌜ Evaluated (table (now (knots .entry)) (now (values .entry)) (now (slopes .entry))) position (r .refusal .number) (r .refusal .place) (r .value) ⌝ }
+pub fn evaluate(s: u32, knots: &[i32], values: &[i32], slopes: &[i32], position: i32) -> Value
+    ensures { λ r. ⌜ Evaluated (table s (now (knots .entry)) (now (values .entry)) (now (slopes .entry))) position (r .refusal .number) (r .refusal .place) (r .value) ⌝ }
 {
-    let refusal = table::check(knots, values, slopes);
+    let refusal = table::check(s, knots, values, slopes);
     if refusal.number != rules::DONE {
         return Value { refusal, value: 0 };
     }
@@ -50,7 +49,7 @@ pub fn evaluate(knots: &[i32], values: &[i32], slopes: &[i32], position: i32) ->
             value: 0,
         },
         Sought::On(spot) => {
-            let value = value_on(spot);
+            let value = value_on(rules::unit(s), spot);
             Value { refusal, value }
         }
     }

@@ -3,7 +3,6 @@ ghost use mathlib.Core.Path.{_≡_};
 ghost use lib.Ieee.{binary64};
 ghost use Rattle.integers.specs.Promise.{Decided};
 ghost use Rattle.floats.specs.Promise.{Exactly};
-ghost use Rattle.cubic.specs.Piece.{unit};
 ghost use Rattle.cubic.specs.Value.{numerator, denominator};
 ghost use Rattle.rules.specs.Limits.{WidthWithin, RiseWithin, TooLarge};
 ghost use Rattle.table.specs.Table.{table};
@@ -46,16 +45,16 @@ fn too_large(h: i64, z: i64) -> bool
 }
 
 // A move in a piece that is not too large: the left value, and what the curve has risen by since, over its denominator.
-fn moving(left: i32, h: i64, z: i64, m: i32, n: i32, t: i64) -> Floats
-    requires { ⌜ InPiece h z m n t ⌝ }
+fn moving(unit: i64, left: i32, h: i64, z: i64, m: i32, n: i32, t: i64) -> Floats
+    requires { ⌜ InPiece unit h z m n t ⌝ }
     requires { ⌜ (TooLarge h z → ⊥) ⌝ }
     ensures { λ r. ⌜ Exactly binary64 left (r .left) ⌝ }
     ensures { λ r. ⌜ Exactly binary64 (numerator unit h z m n t) (r .numerator) ⌝ }
     ensures { λ r. ⌜ Exactly binary64 (denominator unit h) (r .denominator) ⌝ }
 {
-    let cubic = piece::coefficients(h, z, m, n);
+    let cubic = piece::coefficients(unit, h, z, m, n);
     let numerator = horner::numerator(cubic.first, cubic.second, cubic.third, t, h);
-    let denominator = (rules::UNIT * (h * h * h)) as f64;
+    let denominator = (unit * (h * h * h)) as f64;
     let start = left as f64;
     Floats {
         left: start,
@@ -65,16 +64,16 @@ fn moving(left: i32, h: i64, z: i64, m: i32, n: i32, t: i64) -> Floats
 }
 
 // What the drive is told in a piece that is not too large.
-fn told(s: Spot) -> Answer
-    requires { ⌜ InPiece (s .h) (s .z) (s .m) (s .n) (s .t) ⌝ }
-    requires { ⌜ (TooLarge (s .h) (s .z) → ⊥) ⌝ }
-    ensures { λ r. ⌜ ToldIn (s .left) (s .h) (s .z) (s .m) (s .n) (s .t) (toldOf r) ⌝ }
+fn told(unit: i64, p: Spot) -> Answer
+    requires { ⌜ InPiece unit (p .h) (p .z) (p .m) (p .n) (p .t) ⌝ }
+    requires { ⌜ (TooLarge (p .h) (p .z) → ⊥) ⌝ }
+    ensures { λ r. ⌜ ToldIn unit (p .left) (p .h) (p .z) (p .m) (p .n) (p .t) (toldOf r) ⌝ }
 {
-    if s.z == 0 {
-        let level = s.left as f64;
+    if p.z == 0 {
+        let level = p.left as f64;
         return Answer::Dwell(level);
     }
-    Answer::Move(moving(s.left, s.h, s.z, s.m, s.n, s.t))
+    Answer::Move(moving(unit, p.left, p.h, p.z, p.m, p.n, p.t))
 }
 
 // A refused answer.
@@ -89,17 +88,17 @@ fn refused(refusal: Refusal) -> Driven
 }
 
 // What the drive is told in a piece, or its refusal where it is too large.
-fn answer_on(s: Spot) -> Driven
-    requires { ⌜ InPiece (s .h) (s .z) (s .m) (s .n) (s .t) ⌝ }
-    ensures { λ r. ⌜ AnsweredOn (s .piece) (s .left) (s .h) (s .z) (s .m) (s .n) (s .t) (r .refusal .number) (r .refusal .place) (toldOf (r .answer)) ⌝ }
+fn answer_on(unit: i64, p: Spot) -> Driven
+    requires { ⌜ InPiece unit (p .h) (p .z) (p .m) (p .n) (p .t) ⌝ }
+    ensures { λ r. ⌜ AnsweredOn unit (p .piece) (p .left) (p .h) (p .z) (p .m) (p .n) (p .t) (r .refusal .number) (r .refusal .place) (toldOf (r .answer)) ⌝ }
 {
-    if too_large(s.h, s.z) {
+    if too_large(p.h, p.z) {
         return refused(Refusal {
             number: rules::SIZE,
-            place: s.piece,
+            place: p.piece,
         });
     }
-    let answer = told(s);
+    let answer = told(unit, p);
     Driven {
         refusal: Refusal {
             number: rules::DONE,
@@ -109,12 +108,12 @@ fn answer_on(s: Spot) -> Driven
     }
 }
 
-// What the drive is told at a position, or the refusal, in the order 1, 2, 3, 4, 5, 6, 8: the whole table is checked first, then the position, and then the
+// What the drive is told at a position, or the refusal, in the order 12, 1, 2, 3, 4, 5, 6, 8: the whole table is checked first, then the position, and then the
 // size of its piece.
-pub fn float_answer(knots: &[i32], values: &[i32], slopes: &[i32], position: i32) -> Driven
-    ensures { λ r. ⌜ Driving (table (now (knots .entry)) (now (values .entry)) (now (slopes .entry))) position (r .refusal .number) (r .refusal .place) (toldOf (r .answer)) ⌝ }
+pub fn float_answer(s: u32, knots: &[i32], values: &[i32], slopes: &[i32], position: i32) -> Driven
+    ensures { λ r. ⌜ Driving (table s (now (knots .entry)) (now (values .entry)) (now (slopes .entry))) position (r .refusal .number) (r .refusal .place) (toldOf (r .answer)) ⌝ }
 {
-    let refusal = table::check(knots, values, slopes);
+    let refusal = table::check(s, knots, values, slopes);
     if refusal.number != rules::DONE {
         return refused(refusal);
     }
@@ -123,6 +122,6 @@ pub fn float_answer(knots: &[i32], values: &[i32], slopes: &[i32], position: i32
             number: rules::POSITION,
             place: 0,
         }),
-        Sought::On(spot) => answer_on(spot),
+        Sought::On(spot) => answer_on(rules::unit(s), spot),
     }
 }

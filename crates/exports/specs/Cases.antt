@@ -22,8 +22,8 @@ verdictNumber piece.flat = 3
 verdictNumber piece.bends = 4
 
 -- What is answered of one piece is right by the exact rules, and its verdict stands there by its number.
-pub data JudgedAs (h z m n : ℤ) (number place : ℕ) : ℕ → Type 0 where
-  judged : {w : piece.Finding} → piece.Judged h z m n (piece.ruling number place w) → JudgedAs h z m n number place (verdictNumber w)
+pub data JudgedAs (s : ℕ) (h z m n : ℤ) (number place : ℕ) : ℕ → Type 0 where
+  judged : {w : piece.Finding} → piece.Judged s h z m n (piece.ruling number place w) → JudgedAs s h z m n number place (verdictNumber w)
 
 -- What the drive is told: kind 0, a dwell, with its level on the left, +0 above and 1 below, so that left + numerator / denominator is the level; or kind 1,
 -- a move, with its three floats.

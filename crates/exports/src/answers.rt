@@ -43,14 +43,14 @@ pub struct Told {
 }
 
 #[no_mangle]
-pub extern "C" fn negwafir_judge(h: i64, z: i64, m: i32, n: i32) -> Judgement
-    ensures { λ r. ⌜ JudgedAs h z m n (r .refusal .number) (r .refusal .place) (r .verdict) ⌝ }
+pub extern "C" fn negwafir_judge(s: u32, h: i64, z: i64, m: i32, n: i32) -> Judgement
+    ensures { λ r. ⌜ JudgedAs s h z m n (r .refusal .number) (r .refusal .place) (r .verdict) ⌝ }
 {
     let done = Refusal {
         number: rules::DONE,
         place: 0,
     };
-    match piece::judge(h, z, m, n) {
+    match piece::judge(s, h, z, m, n) {
         Verdict::Rising => Judgement {
             refusal: done,
             verdict: RISING,
@@ -76,38 +76,41 @@ pub extern "C" fn negwafir_judge(h: i64, z: i64, m: i32, n: i32) -> Judgement
 
 #[no_mangle]
 pub extern "C" fn negwafir_locate(
+    s: u32,
     knots: &[i32],
     values: &[i32],
     slopes: &[i32],
     position: i32,
 ) -> Place
-    ensures { λ r. ⌜ Located (table (now (knots .entry)) (now (values .entry)) (now (slopes .entry))) position (r .refusal .number) (r .refusal .place) (r .piece) ⌝ }
+    ensures { λ r. ⌜ Located (table s (now (knots .entry)) (now (values .entry)) (now (slopes .entry))) position (r .refusal .number) (r .refusal .place) (r .piece) ⌝ }
 {
-    position::locate(knots, values, slopes, position)
+    position::locate(s, knots, values, slopes, position)
 }
 
 #[no_mangle]
 pub extern "C" fn negwafir_evaluate(
+    s: u32,
     knots: &[i32],
     values: &[i32],
     slopes: &[i32],
     position: i32,
 ) -> Value
-    ensures { λ r. ⌜ Evaluated (table (now (knots .entry)) (now (values .entry)) (now (slopes .entry))) position (r .refusal .number) (r .refusal .place) (r .value) ⌝ }
+    ensures { λ r. ⌜ Evaluated (table s (now (knots .entry)) (now (values .entry)) (now (slopes .entry))) position (r .refusal .number) (r .refusal .place) (r .value) ⌝ }
 {
-    curve::evaluate(knots, values, slopes, position)
+    curve::evaluate(s, knots, values, slopes, position)
 }
 
 #[no_mangle]
 pub extern "C" fn negwafir_float_answer(
+    s: u32,
     knots: &[i32],
     values: &[i32],
     slopes: &[i32],
     position: i32,
 ) -> Told
-    ensures { λ r. ⌜ DrivenAs (table (now (knots .entry)) (now (values .entry)) (now (slopes .entry))) position (r .refusal .number) (r .refusal .place) (r .kind) (r .left) (r .numerator) (r .denominator) ⌝ }
+    ensures { λ r. ⌜ DrivenAs (table s (now (knots .entry)) (now (values .entry)) (now (slopes .entry))) position (r .refusal .number) (r .refusal .place) (r .kind) (r .left) (r .numerator) (r .denominator) ⌝ }
 {
-    let driven = drive::float_answer(knots, values, slopes, position);
+    let driven = drive::float_answer(s, knots, values, slopes, position);
     let refusal = driven.refusal;
     let answer = driven.answer;
     match answer {

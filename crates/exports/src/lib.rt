@@ -17,6 +17,7 @@ pub use numbers::negwafir_difference;
 pub use numbers::negwafir_floor_div;
 pub use numbers::negwafir_nearest_div;
 pub use numbers::negwafir_rise_within;
+pub use numbers::negwafir_unit_within;
 pub use numbers::negwafir_width_within;
 pub use tables::negwafir_build;
 pub use tables::negwafir_change_point;

@@ -2,7 +2,7 @@
 ghost use mathlib.Core.Path.{_≡_};
 ghost use lib.IntN.{_-ℤ_};
 ghost use Rattle.integers.specs.Promise.{Decided, Quotient, Rounded, Between};
-ghost use Rattle.rules.specs.Limits.{CountWithin, WidthWithin, RiseWithin};
+ghost use Rattle.rules.specs.Limits.{UnitWithin, CountWithin, WidthWithin, RiseWithin};
 
 #[no_mangle]
 pub extern "C" fn negwafir_difference(left: i32, right: i32) -> i64
@@ -30,6 +30,13 @@ pub extern "C" fn negwafir_nearest_div(n: i64, d: i64) -> i64
     ensures { λ r. ⌜ Rounded n d r ⌝ }
 {
     integers::nearest_div(n, d)
+}
+
+#[no_mangle]
+pub extern "C" fn negwafir_unit_within(s: u32) -> bool
+    ensures { λ r. ⌜ Decided (UnitWithin s) r ⌝ }
+{
+    rules::unit_within(s)
 }
 
 #[no_mangle]

@@ -18,6 +18,7 @@ pub fn empty() -> Kept {
         knots: 0,
         values: 0,
         slopes: 0,
+        unit: 8,
         written: true,
     }
 }
@@ -93,6 +94,7 @@ fn other(
 // `build`: makes the slopes out of the knots and the values.
 fn build(knots: &[i32; ROOM], values: &[i32; ROOM], slopes: &mut [i32], kept: Kept) -> Kept {
     let done = slopes::build(
+        kept.unit,
         front(knots, kept.knots),
         front(values, kept.values),
         front_to_change(slopes, kept.slopes),
@@ -109,6 +111,7 @@ fn change(
     kept: Kept,
 ) -> Kept {
     let done = change::point(
+        kept.unit,
         front_to_change(knots, kept.knots),
         front_to_change(values, kept.values),
         front_to_change(slopes, kept.slopes),
@@ -148,22 +151,23 @@ fn read(
     if let Command::Show(list) = command {
         return show(kept, list, k, v, s);
     }
-    reply(kept, answer_to(command, number, k, v, s))
+    reply(kept, answer_to(command, number, kept.unit, k, v, s))
 }
 
 fn answer_to(
     command: Command,
     number: u64,
+    unit: u32,
     knots: &[i32],
     values: &[i32],
     slopes: &[i32],
 ) -> Reply {
     match command {
         Command::Wrong(fault) => Reply::Wrong(number, fault),
-        Command::Piece(p) => Reply::Judged(piece::judge(p.h, p.z, p.m, p.n)),
-        Command::Check => Reply::Done(table::check(knots, values, slopes)),
-        Command::At(x) => Reply::Valued(curve::evaluate(knots, values, slopes, x)),
-        Command::Drive(x) => Reply::Driven(drive::float_answer(knots, values, slopes, x)),
+        Command::Piece(p) => Reply::Judged(piece::judge(unit, p.h, p.z, p.m, p.n)),
+        Command::Check => Reply::Done(table::check(unit, knots, values, slopes)),
+        Command::At(x) => Reply::Valued(curve::evaluate(unit, knots, values, slopes, x)),
+        Command::Drive(x) => Reply::Driven(drive::float_answer(unit, knots, values, slopes, x)),
         _ => Reply::Silent,
     }
 }

@@ -1,27 +1,37 @@
 -- The promise of `judge` admits one ruling only.
 use mathlib.Core.Path.{_≡_, refl, sym, _∙_, ap}
+use Prim.Native.Nat.{ℕ}
 use lib.IntN.{ℤ}
-use Rattle.piece.specs.Promise.{Ruling, ruling, rising, falling, flat, bends, none, rulingOf, Judged, width-refused, rise-refused, monotone, bent}
+use Rattle.piece.specs.Promise.{Ruling, ruling, rising, falling, flat, bends, none, rulingOf, Judged, unit-refused, width-refused, rise-refused, monotone, bent}
 use Rattle.piece.specs.declared.Verdict.{Verdict}
 use Rattle.piece.specs.declared.Verdict.the-variants.{Rising, Falling, Flat, Bends, Refused}
 
-pub one-ruling : {h z m n : ℤ} {x y : Ruling} → Judged h z m n x → Judged h z m n y → x ≡ y
-one-ruling (width-refused f) (width-refused g) = refl
-one-ruling (width-refused f) (rise-refused w g) = absurd (f w)
-one-ruling (width-refused f) (monotone w r m) = absurd (f w)
-one-ruling (width-refused f) (bent w r g) = absurd (f w)
-one-ruling (rise-refused w f) (width-refused g) = absurd (g w)
-one-ruling (rise-refused w f) (rise-refused v g) = refl
-one-ruling (rise-refused w f) (monotone v r m) = absurd (f r)
-one-ruling (rise-refused w f) (bent v r g) = absurd (f r)
-one-ruling (monotone w r m) (width-refused g) = absurd (g w)
-one-ruling (monotone w r m) (rise-refused v g) = absurd (g r)
-one-ruling (monotone w r m) (monotone v s k) = refl
-one-ruling (monotone w r m) (bent v s g) = absurd (g m)
-one-ruling (bent w r f) (width-refused g) = absurd (g w)
-one-ruling (bent w r f) (rise-refused v g) = absurd (g r)
-one-ruling (bent w r f) (monotone v s k) = absurd (f k)
-one-ruling (bent w r f) (bent v s g) = refl
+pub one-ruling : {s : ℕ} {h z m n : ℤ} {x y : Ruling} → Judged s h z m n x → Judged s h z m n y → x ≡ y
+one-ruling (unit-refused f) (unit-refused g) = refl
+one-ruling (unit-refused f) (width-refused u g) = absurd (f u)
+one-ruling (unit-refused f) (rise-refused u w g) = absurd (f u)
+one-ruling (unit-refused f) (monotone u w r m) = absurd (f u)
+one-ruling (unit-refused f) (bent u w r g) = absurd (f u)
+one-ruling (width-refused u f) (unit-refused g) = absurd (g u)
+one-ruling (width-refused u f) (width-refused v g) = refl
+one-ruling (width-refused u f) (rise-refused v w g) = absurd (f w)
+one-ruling (width-refused u f) (monotone v w r m) = absurd (f w)
+one-ruling (width-refused u f) (bent v w r g) = absurd (f w)
+one-ruling (rise-refused u w f) (unit-refused g) = absurd (g u)
+one-ruling (rise-refused u w f) (width-refused v g) = absurd (g w)
+one-ruling (rise-refused u w f) (rise-refused v x g) = refl
+one-ruling (rise-refused u w f) (monotone v x r m) = absurd (f r)
+one-ruling (rise-refused u w f) (bent v x r g) = absurd (f r)
+one-ruling (monotone u w r m) (unit-refused g) = absurd (g u)
+one-ruling (monotone u w r m) (width-refused v g) = absurd (g w)
+one-ruling (monotone u w r m) (rise-refused v x g) = absurd (g r)
+one-ruling (monotone u w r m) (monotone v x t k) = refl
+one-ruling (monotone u w r m) (bent v x t g) = absurd (g m)
+one-ruling (bent u w r f) (unit-refused g) = absurd (g u)
+one-ruling (bent u w r f) (width-refused v g) = absurd (g w)
+one-ruling (bent u w r f) (rise-refused v x g) = absurd (g r)
+one-ruling (bent u w r f) (monotone v x t k) = absurd (f k)
+one-ruling (bent u w r f) (bent v x t g) = refl
 
 -- a ruling, back as a case of the enum
 abbrev caseOf : Ruling → Verdict
@@ -39,5 +49,5 @@ there-and-back Bends = refl
 there-and-back (Refused r) = refl
 
 -- two results of `judge` that meet its promise are equal
-pub one-verdict : {h z m n : ℤ} (r s : Verdict) → Judged h z m n (rulingOf r) → Judged h z m n (rulingOf s) → r ≡ s
-one-verdict r s p q = sym (there-and-back r) ∙ ap caseOf (one-ruling p q) ∙ there-and-back s
+pub one-verdict : {s : ℕ} {h z m n : ℤ} (r t : Verdict) → Judged s h z m n (rulingOf r) → Judged s h z m n (rulingOf t) → r ≡ t
+one-verdict r t p q = sym (there-and-back r) ∙ ap caseOf (one-ruling p q) ∙ there-and-back t

@@ -2,8 +2,8 @@
 -- monotone piece.
 use Prim.Native.Nat.{ℕ, zero, suc}
 use lib.IntN.{ℤ, pos, negsuc}
-use Rattle.cubic.specs.Piece.{unit, Monotone}
-use Rattle.rules.specs.Limits.{WidthWithin, RiseWithin}
+use Rattle.cubic.specs.Piece.{Monotone}
+use Rattle.rules.specs.Limits.{unit, UnitWithin, WidthWithin, RiseWithin}
 use Rattle.piece.specs.declared.Verdict.{Verdict}
 use Rattle.piece.specs.declared.Verdict.the-variants.{Rising, Falling, Flat, Bends, Refused}
 
@@ -29,9 +29,11 @@ leaning (pos zero) = flat
 leaning (pos (suc n)) = rising
 leaning (negsuc n) = falling
 
--- The right ruling for a piece. "one piece: 3, 4", the first cause that holds, at place 0; else monotone by the definition, or it bends.
-pub data Judged (h z m n : ℤ) : Ruling → Type 0 where
-  width-refused : (WidthWithin h → ⊥) → Judged h z m n (ruling 3 0 none)
-  rise-refused : WidthWithin h → (RiseWithin z → ⊥) → Judged h z m n (ruling 4 0 none)
-  monotone : WidthWithin h → RiseWithin z → Monotone unit h z m n → Judged h z m n (ruling 0 0 (leaning z))
-  bent : WidthWithin h → RiseWithin z → (Monotone unit h z m n → ⊥) → Judged h z m n (ruling 0 0 bends)
+-- The right ruling for a piece whose slopes are in 1/2^s. "one piece: 3, 4", and before these "A larger s is refusal 12, place 0, asked first": the first cause that holds, at place 0; else
+-- monotone by the definition, or it bends.
+pub data Judged (s : ℕ) (h z m n : ℤ) : Ruling → Type 0 where
+  unit-refused : (UnitWithin s → ⊥) → Judged s h z m n (ruling 12 0 none)
+  width-refused : UnitWithin s → (WidthWithin h → ⊥) → Judged s h z m n (ruling 3 0 none)
+  rise-refused : UnitWithin s → WidthWithin h → (RiseWithin z → ⊥) → Judged s h z m n (ruling 4 0 none)
+  monotone : UnitWithin s → WidthWithin h → RiseWithin z → Monotone (unit s) h z m n → Judged s h z m n (ruling 0 0 (leaning z))
+  bent : UnitWithin s → WidthWithin h → RiseWithin z → (Monotone (unit s) h z m n → ⊥) → Judged s h z m n (ruling 0 0 bends)

@@ -1,9 +1,10 @@
 // The verdict on one piece: rising, falling, flat or bends, or the refusal of a piece outside the limits. And the cubic of a piece.
 ghost use Rattle.integers.specs.Promise.{Decided};
 ghost use Rattle.integers.specs.Within.{Within};
-ghost use Rattle.cubic.specs.Piece.{unit, NeverAgainst, Monotone};
+ghost use Rattle.cubic.specs.Piece.{NeverAgainst, Monotone};
 ghost use Rattle.cubic.specs.OneTest.{SquareWithin};
 ghost use Rattle.rules.specs.Limits.{WidthWithin, RiseWithin};
+ghost use Rattle.rules.specs.Known.{UnitSize};
 ghost use Rattle.piece.specs.Promise.{Judged, rulingOf};
 ghost use Rattle.piece.specs.Sizes.{WithSign, Moderate, Low};
 ghost use Rattle.piece.specs.Cubic.{UnitsOf, Coefficients};
@@ -32,14 +33,15 @@ struct Units {
     b: i64,
 }
 
-// Z = 256·z, a = m·h and b = n·h, of a piece within the limits, or turned.
-fn in_units(h: i64, z: i64, m: i32, n: i32) -> Units
+// Z = U·z, a = m·h and b = n·h, of a piece within the limits, or turned, where U is the slope unit.
+fn in_units(unit: i64, h: i64, z: i64, m: i32, n: i32) -> Units
+    requires { ⌜ UnitSize unit ⌝ }
     requires { ⌜ Within 1024 h ⌝ }
     requires { ⌜ Within 1048576 z ⌝ }
     ensures { λ r. ⌜ UnitsOf unit h z m n (r .rise) (r .a) (r .b) ⌝ }
     ensures { λ r. ⌜ Moderate (r .rise) (r .a) (r .b) ⌝ }
 {
-    let rise = rules::UNIT * z;
+    let rise = unit * z;
     let a = (m as i64) * h;
     let b = (n as i64) * h;
     Units { rise, a, b }
@@ -81,21 +83,28 @@ fn never_against(rise: i64, a: i64, b: i64) -> bool
     square_within(a + b - 3 * rise, a, b)
 }
 
-// Whether a piece within the limits is monotone: the one test, of the piece turned so that it does not fall.
-pub fn is_monotone(h: i64, z: i64, m: i32, n: i32) -> bool
+// Whether a piece within the limits is monotone, with slopes in 1/unit: the one test, of the piece turned so that it does not fall.
+pub fn is_monotone(unit: i64, h: i64, z: i64, m: i32, n: i32) -> bool
+    requires { ⌜ UnitSize unit ⌝ }
     requires { ⌜ WidthWithin h ⌝ }
     requires { ⌜ RiseWithin z ⌝ }
     ensures { λ r. ⌜ Decided (Monotone unit h z m n) r ⌝ }
 {
-    let u = in_units(turned(z, h), turned(z, z), m, n);
+    let u = in_units(unit, turned(z, h), turned(z, z), m, n);
     never_against(u.rise, u.a, u.b)
 }
 
-// The verdict on the piece of width h and rise z with the slopes m and n at its ends, or its refusal: by 3 where the width, else by 4 where
-// the rise is outside its limits, at place 0.
-pub fn judge(h: i64, z: i64, m: i32, n: i32) -> Verdict
-    ensures { λ r. ⌜ Judged h z m n (rulingOf r) ⌝ }
+// The verdict on the piece of width h and rise z with the slopes m and n at its ends, in 1/2^s of a value per count, or its refusal, at place 0: by 12 where s is above 8,
+// else by 3 where the width, else by 4 where the rise is outside its limits.
+pub fn judge(s: u32, h: i64, z: i64, m: i32, n: i32) -> Verdict
+    ensures { λ r. ⌜ Judged s h z m n (rulingOf r) ⌝ }
 {
+    if !rules::unit_within(s) {
+        return Verdict::Refused(Refusal {
+            number: rules::SLOPE_UNIT,
+            place: 0,
+        });
+    }
     if !rules::width_within(h) {
         return Verdict::Refused(Refusal {
             number: rules::WIDTH,
@@ -108,7 +117,7 @@ pub fn judge(h: i64, z: i64, m: i32, n: i32) -> Verdict
             place: 0,
         });
     }
-    if !is_monotone(h, z, m, n) {
+    if !is_monotone(rules::unit(s), h, z, m, n) {
         return Verdict::Bends;
     }
     if 0 < z {
@@ -120,13 +129,14 @@ pub fn judge(h: i64, z: i64, m: i32, n: i32) -> Verdict
     Verdict::Flat
 }
 
-// The coefficients of a piece within the limits: a, 3Z − 2a − b and a + b − 2Z.
-pub fn coefficients(h: i64, z: i64, m: i32, n: i32) -> Cubic
+// The coefficients of a piece within the limits, with slopes in 1/unit: a, 3Z − 2a − b and a + b − 2Z.
+pub fn coefficients(unit: i64, h: i64, z: i64, m: i32, n: i32) -> Cubic
+    requires { ⌜ UnitSize unit ⌝ }
     requires { ⌜ WidthWithin h ⌝ }
     requires { ⌜ RiseWithin z ⌝ }
     ensures { λ r. ⌜ Coefficients unit h z m n (r .first) (r .second) (r .third) ⌝ }
 {
-    let u = in_units(h, z, m, n);
+    let u = in_units(unit, h, z, m, n);
     let rise = u.rise;
     let a = u.a;
     let b = u.b;

@@ -1,9 +1,10 @@
 // Where a position lies: the piece that it belongs to, once the whole table is accepted, or why there is none.
+ghost use mathlib.Core.Path.{_≡_};
 ghost use Prim.Native.Nat.{_<_};
 ghost use lib.ListN.{length};
 ghost use Rattle.integers.specs.Promise.{Decided};
 ghost use Rattle.table.specs.Table.{table};
-ghost use Rattle.table.specs.Accepted.{Accepted};
+ghost use Rattle.table.specs.Accepted.{PointsWithin};
 ghost use Rattle.position.specs.Position.{WithinKnots, Belongs, Located};
 ghost use Rattle.position.specs.Spot.{SpotOn, SoughtIn};
 
@@ -29,7 +30,7 @@ pub struct Spot {
     pub t: i64,
 }
 
-// Where a position lies in an accepted table: outside its knots, which is 6, or in a piece.
+// Where a position lies in a table: outside its knots, which is 6, or in a piece.
 pub enum Sought {
     Outside,
     On(Spot),
@@ -46,11 +47,12 @@ fn within(knots: &[i32], position: i32) -> bool
     position <= knots[knots.len() - 1]
 }
 
-// Where a position is in piece i, which it belongs to, of an accepted table.
+// Where a position is in piece i, which it belongs to, of points within the limits.
 fn spot_on(knots: &[i32], values: &[i32], slopes: &[i32], i: usize, position: i32) -> Spot
-    requires { ⌜ Accepted (table (now knots) (now values) (now slopes)) ⌝ }
+    requires { ⌜ PointsWithin (now knots) (now values) ⌝ }
+    requires { ⌜ length (now slopes) ≡ length (now knots) ⌝ }
     requires { ⌜ Belongs (now knots) position i ⌝ }
-    ensures { λ r. ⌜ SpotOn (table (now (knots .entry)) (now (values .entry)) (now (slopes .entry))) (r .piece) position (r .left) (r .h) (r .z) (r .m) (r .n) (r .t) ⌝ }
+    ensures { λ r. ⌜ SpotOn (now (knots .entry)) (now (values .entry)) (now (slopes .entry)) (r .piece) position (r .left) (r .h) (r .z) (r .m) (r .n) (r .t) ⌝ }
 {
     let left = values[i];
     let h = table::step(knots, i);
@@ -69,10 +71,11 @@ fn spot_on(knots: &[i32], values: &[i32], slopes: &[i32], i: usize, position: i3
     }
 }
 
-// Where a position lies in an accepted table. What is asked of the table is asked before, once for any number of positions.
+// Where a position lies among points within the limits. What is asked of the table is asked before, once for any number of positions; the slopes are read, and need not be good.
 pub fn seek(knots: &[i32], values: &[i32], slopes: &[i32], position: i32) -> Sought
-    requires { ⌜ Accepted (table (now knots) (now values) (now slopes)) ⌝ }
-    ensures { λ r. ⌜ SoughtIn (table (now (knots .entry)) (now (values .entry)) (now (slopes .entry))) position r ⌝ }
+    requires { ⌜ PointsWithin (now knots) (now values) ⌝ }
+    requires { ⌜ length (now slopes) ≡ length (now knots) ⌝ }
+    ensures { λ r. ⌜ SoughtIn (now (knots .entry)) (now (values .entry)) (now (slopes .entry)) position r ⌝ }
 {
     if !within(knots, position) {
         return Sought::Outside;
@@ -81,11 +84,11 @@ pub fn seek(knots: &[i32], values: &[i32], slopes: &[i32], position: i32) -> Sou
     Sought::On(spot_on(knots, values, slopes, piece, position))
 }
 
-// The piece that the position belongs to, or the refusal, in the order 1, 2, 3, 4, 5, 6.
-pub fn locate(knots: &[i32], values: &[i32], slopes: &[i32], position: i32) -> Place
-    ensures { λ r. ⌜ Located (table (now (knots .entry)) (now (values .entry)) (now (slopes .entry))) position (r .refusal .number) (r .refusal .place) (r .piece) ⌝ }
+// The piece that the position belongs to, or the refusal, in the order 12, 1, 2, 3, 4, 5, 6.
+pub fn locate(s: u32, knots: &[i32], values: &[i32], slopes: &[i32], position: i32) -> Place
+    ensures { λ r. ⌜ Located (table s (now (knots .entry)) (now (values .entry)) (now (slopes .entry))) position (r .refusal .number) (r .refusal .place) (r .piece) ⌝ }
 {
-    let refusal = table::check(knots, values, slopes);
+    let refusal = table::check(s, knots, values, slopes);
     if refusal.number != rules::DONE {
         return Place { refusal, piece: 0 };
     }

@@ -4,7 +4,10 @@ use mathlib.Core.List.{List, [], _∷_, _++_}
 use mathlib.Core.Logic.{_⊎_, inl, inr, ⊎-elim}
 use Prim.Native.Nat.{ℕ, zero, suc, _<_}
 use native.Mathlib.Nat.{eq-or-lt-of-le}
+use native.Mathlib.Decide.{decLe}
 use native.Mathlib.Omega.{arith}
+use Rattle.integers.specs.Decided.{or-not, alike-or-not}
+use Rattle.rules.specs.Limits.{UnitWithin}
 use Rattle.rules.specs.Refusals.{Given, done, refused, passed, Answered, nothing, answered}
 
 -- ---- the first place at which something holds
@@ -31,6 +34,10 @@ searched-below {P} bound below tell = ⊎-elim (λ s. s) (λ f. nowhere (λ q h.
 pub searched-at-0 : {P : ℕ → Type 0} → ((p : ℕ) → P p → p ≡ 0) → P 0 ⊎ (P 0 → ⊥) → Searched P
 searched-at-0 {P} only tell =
     ⊎-elim (λ h. first 0 h (λ q l _. absurd (omega (arith, l)))) (λ f. nowhere (λ q h. f (subst P (only q h) h))) tell
+
+-- a slope unit is one of the nine, or not
+pub unit-or-not : (s : ℕ) → UnitWithin s ⊎ (UnitWithin s → ⊥)
+unit-or-not s = alike-or-not (λ l. record { high = l }) (λ w. w .high) (or-not (decLe s 8))
 
 -- ---- the answer of an order
 

@@ -1,11 +1,27 @@
 -- The limits as sizes of values, for proofs about code.
+use Prim.Native.Nat.{ℕ}
+use lib.Pow.{pow-pos, pow-mono}
 use lib.IntN.{ℤ, pos}
 use lib.Signed.{_<ℤ_, leZ-yes}
 use Rattle.integers.specs.Promise.{Between}
-use Rattle.integers.specs.Order.{≤ℤ-trans, 1≤→0<}
+use Rattle.integers.specs.Order.{≤ℤ-trans, 1≤→0<, pos-≤}
 use Rattle.integers.specs.Within.{Within, within}
 use Rattle.integers.specs.Sizes.{Known, known}
-use Rattle.rules.specs.Limits.{WidthWithin, RiseWithin}
+use Rattle.rules.specs.Limits.{unit, UnitWithin, WidthWithin, RiseWithin}
+
+-- what the sizes rest on, of a slope unit
+abbrev pub UnitSize : ℤ → Type 0
+UnitSize U = Between (pos 1) U (pos 256)
+
+pub unit-size : {s : ℕ} → UnitWithin s → UnitSize (unit s)
+unit-size {s} w = record { low = pos-≤ (pow-pos s); high = pos-≤ (pow-mono (w .high)) }
+
+-- it is above 0
+pub 0<-unit : {U : ℤ} → UnitSize U → pos 0 <ℤ U
+0<-unit u = 1≤→0< (u .low)
+
+abbrev pub known-unit : (U : ℤ) → UnitSize U → Known
+known-unit U u = known U 256 (within 256 U (≤ℤ-trans (leZ-yes tt) (u .low)) (u .high))
 
 -- a width is above 0, and how large a rise can be
 pub 0<-width : {h : ℤ} → WidthWithin h → pos 0 <ℤ h

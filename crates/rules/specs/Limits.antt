@@ -1,8 +1,16 @@
--- "Numbers that bound everything" of the exact rules.
+-- "Numbers that bound everything" of the exact rules, and the slope units of request 8 of document 02.
 use Prim.Native.Nat.{ℕ, _^_, _≤_}
 use lib.IntN.{ℤ, pos, negsuc, _*ℤ_}
 use lib.Signed.{_<ℤ_}
 use Rattle.integers.specs.Promise.{Between, magnitude}
+
+-- "A table now carries a number s from 0 to 8"
+pub record UnitWithin (s : ℕ) : Type 0 where
+  pub high : s ≤ 8
+
+-- "and slopes are in units of 1/2^s. In the rules of document 01 and CR 2 read 2^s for 256": document 01 is s = 8
+abbrev pub unit : ℕ → ℤ
+unit s = pos (2 ^ s)
 
 -- "2 to 1,024 points"
 pub record CountWithin (n : ℕ) : Type 0 where

@@ -1,6 +1,8 @@
-// The numbers of the exact rules: the limits, the slope unit, and how a refusal is answered.
+// The numbers of the exact rules: the limits, the slope units, and how a refusal is answered.
+ghost use mathlib.Core.Path.{_≡_};
 ghost use Rattle.integers.specs.Promise.{Decided};
-ghost use Rattle.rules.specs.Limits.{CountWithin, WidthWithin, RiseWithin};
+ghost use Rattle.rules.specs.Limits.{unit, UnitWithin, CountWithin, WidthWithin, RiseWithin};
+ghost use Rattle.rules.specs.Known.{UnitSize};
 
 // A refusal: its number in the exact rules, and the place that it names. Both are 0 where nothing is refused.
 #[repr(C)]
@@ -8,9 +10,6 @@ pub struct Refusal {
     pub number: u32,
     pub place: usize,
 }
-
-// Slopes are in units of 1/256 of a value per count.
-pub const UNIT: i64 = 256;
 
 // A float answer is given up to 2^40, for the size of a rise times its width cubed.
 pub const EXACT: i64 = 1099511627776;
@@ -33,6 +32,24 @@ pub const POSITION: u32 = 6;
 pub const POINT: u32 = 7;
 // A piece too large for the exact float answer.
 pub const SIZE: u32 = 8;
+// The slope unit is not in 0 to 8.
+pub const SLOPE_UNIT: u32 = 12;
+
+// Whether s is in 0 to 8: slopes are in units of 1/2^s of a value per count.
+pub fn unit_within(s: u32) -> bool
+    ensures { λ r. ⌜ Decided (UnitWithin s) r ⌝ }
+{
+    s <= 8
+}
+
+// The unit 2^s. It is from 1 to 256, and the sizes of all that is worked out rest on that alone.
+pub fn unit(s: u32) -> i64
+    requires { ⌜ UnitWithin s ⌝ }
+    ensures { λ r. ⌜ r ≡ unit s ⌝ }
+    ensures { λ r. ⌜ UnitSize r ⌝ }
+{
+    1 << s
+}
 
 // Whether a number of points is in 2 to 1,024.
 pub fn count_within(n: usize) -> bool

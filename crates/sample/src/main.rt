@@ -1,4 +1,7 @@
 // The sampling program: it holds the points (0, 0) and (3, -10), builds their slopes, and prints the value of the curve at each position.
+// Slopes are in 1/2^8 of a value per count.
+const S: u32 = 8;
+
 const KNOTS: [i32; 2] = [0, 3];
 
 const VALUES: [i32; 2] = [0, -10];
@@ -7,7 +10,7 @@ const POSITIONS: [i32; 4] = [0, 1, 2, 3];
 
 fn main() {
     let mut slopes = [0i32; 2];
-    let built = slopes::build(&KNOTS, &VALUES, &mut slopes);
+    let built = slopes::build(S, &KNOTS, &VALUES, &mut slopes);
     if built.number != rules::DONE {
         os::fail(b"sample: the points are refused");
         return;
@@ -48,7 +51,7 @@ fn row(
     slopes: &[i32],
     position: i32,
 ) -> usize {
-    let at = curve::evaluate(knots, values, slopes, position);
+    let at = curve::evaluate(S, knots, values, slopes, position);
     if at.refusal.number != rules::DONE {
         os::fail(b"sample: a position is refused");
         return held;

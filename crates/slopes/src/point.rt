@@ -1,8 +1,9 @@
-// The slope that is built at each point of a table.
+// The slope that is built at each point of a table, in 1/unit.
 ghost use mathlib.Core.Path.{_≡_};
 ghost use Prim.Native.Nat.{_-_, _≤_, _<_};
 ghost use lib.ListN.{length};
 ghost use Rattle.integers.specs.Promise.{Decided};
+ghost use Rattle.rules.specs.Known.{UnitSize};
 ghost use Rattle.table.specs.Accepted.{PointsWithin};
 ghost use Rattle.slopes.specs.Slopes.{builtSlope};
 ghost use Rattle.slopes.specs.Cases.{AtEnd, Neighbour};
@@ -45,15 +46,17 @@ fn neighbour(i: usize) -> usize
 }
 
 // At point i, an end.
-fn at_end(knots: &[i32], values: &[i32], i: usize) -> i32
+fn at_end(unit: i64, knots: &[i32], values: &[i32], i: usize) -> i32
+    requires { ⌜ UnitSize unit ⌝ }
     requires { ⌜ PointsWithin (now knots) (now values) ⌝ }
     requires { ⌜ 2 < length (now knots) ⌝ }
     requires { ⌜ AtEnd (length (now knots)) i ⌝ }
-    ensures { λ r. ⌜ r ≡ builtSlope (now (knots .entry)) (now (values .entry)) i ⌝ }
+    ensures { λ r. ⌜ r ≡ builtSlope unit (now (knots .entry)) (now (values .entry)) i ⌝ }
 {
     let piece = end_piece(i);
     let next = neighbour(i);
     rule::end(
+        unit,
         table::step(knots, piece),
         table::step(values, piece),
         table::step(knots, next),
@@ -62,20 +65,22 @@ fn at_end(knots: &[i32], values: &[i32], i: usize) -> i32
 }
 
 // At point i, an end or between two pieces.
-fn slope(knots: &[i32], values: &[i32], i: usize) -> i32
+fn slope(unit: i64, knots: &[i32], values: &[i32], i: usize) -> i32
+    requires { ⌜ UnitSize unit ⌝ }
     requires { ⌜ PointsWithin (now knots) (now values) ⌝ }
     requires { ⌜ i < length (now knots) ⌝ }
-    ensures { λ r. ⌜ r ≡ builtSlope (now (knots .entry)) (now (values .entry)) i ⌝ }
+    ensures { λ r. ⌜ r ≡ builtSlope unit (now (knots .entry)) (now (values .entry)) i ⌝ }
 {
     let n = knots.len();
     if n < 3 {
-        return rule::secant(table::step(knots, 0), table::step(values, 0));
+        return rule::secant(unit, table::step(knots, 0), table::step(values, 0));
     }
     if is_end(i, n) {
-        return at_end(knots, values, i);
+        return at_end(unit, knots, values, i);
     }
     let left = i - 1;
     rule::inner(
+        unit,
         table::step(knots, left),
         table::step(values, left),
         table::step(knots, i),
@@ -84,16 +89,17 @@ fn slope(knots: &[i32], values: &[i32], i: usize) -> i32
 }
 
 // Puts the slopes of the points from `from` up to and without `to` into their places.
-pub fn renew(knots: &[i32], values: &[i32], slopes: &mut [i32], from: usize, to: usize)
+pub fn renew(unit: i64, knots: &[i32], values: &[i32], slopes: &mut [i32], from: usize, to: usize)
+    requires { ⌜ UnitSize unit ⌝ }
     requires { ⌜ PointsWithin (now knots) (now values) ⌝ }
     requires { ⌜ length (now slopes) ≡ length (now knots) ⌝ }
     requires { ⌜ from ≤ to ⌝ }
     requires { ⌜ to ≤ length (now knots) ⌝ }
-    ensures { λ _. ⌜ now (slopes .exit) ≡ put (builtSlope (now (knots .entry)) (now (values .entry))) from (to - from) (now (slopes .entry)) ⌝ }
+    ensures { λ _. ⌜ now (slopes .exit) ≡ put (builtSlope unit (now (knots .entry)) (now (values .entry))) from (to - from) (now (slopes .entry)) ⌝ }
 {
     let mut i = from;
     while i < to {
-        slopes[i] = slope(knots, values, i);
+        slopes[i] = slope(unit, knots, values, i);
         i += 1;
     }
 }

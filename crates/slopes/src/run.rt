@@ -2,6 +2,7 @@
 ghost use mathlib.Core.Path.{_≡_};
 ghost use Prim.Native.Nat.{_-_};
 ghost use lib.ListN.{length};
+ghost use Rattle.rules.specs.Known.{UnitSize};
 ghost use Rattle.table.specs.Accepted.{PointsWithin};
 ghost use Rattle.slopes.specs.Slopes.{builtSlope};
 ghost use Rattle.slopes.specs.Put.{put};
@@ -9,10 +10,11 @@ use crate::rule;
 
 // Puts the slopes of the points between the first and the last into their places. The ends have a rule of their own, which `point::renew` knows, and are
 // left as they are.
-pub(crate) fn inner(knots: &[i32], values: &[i32], slopes: &mut [i32])
+pub(crate) fn inner(unit: i64, knots: &[i32], values: &[i32], slopes: &mut [i32])
+    requires { ⌜ UnitSize unit ⌝ }
     requires { ⌜ PointsWithin (now knots) (now values) ⌝ }
     requires { ⌜ length (now slopes) ≡ length (now knots) ⌝ }
-    ensures { λ _. ⌜ now (slopes .exit) ≡ put (builtSlope (now (knots .entry)) (now (values .entry))) 1 (length (now (knots .entry)) - 2) (now (slopes .entry)) ⌝ }
+    ensures { λ _. ⌜ now (slopes .exit) ≡ put (builtSlope unit (now (knots .entry)) (now (values .entry))) 1 (length (now (knots .entry)) - 2) (now (slopes .entry)) ⌝ }
 {
     let last = knots.len() - 1;
     let mut h1 = table::step(knots, 0);
@@ -21,7 +23,7 @@ pub(crate) fn inner(knots: &[i32], values: &[i32], slopes: &mut [i32])
     while i < last {
         let h2 = table::step(knots, i);
         let z2 = table::step(values, i);
-        slopes[i] = rule::inner(h1, z1, h2, z2);
+        slopes[i] = rule::inner(unit, h1, z1, h2, z2);
         h1 = h2;
         z1 = z2;
         i += 1;

@@ -3,9 +3,11 @@ ghost use Prim.Native.Nat.{_-_, _<_};
 ghost use lib.IntN.{_-ℤ_};
 ghost use lib.ListN.{length};
 ghost use Rattle.integers.specs.Within.{Within};
+ghost use Rattle.rules.specs.Limits.{UnitWithin};
+ghost use Rattle.rules.specs.Known.{UnitSize};
 ghost use Rattle.rules.specs.Refusals.{Given};
 ghost use Rattle.table.specs.Table.{table, SameLengths, Holds};
-ghost use Rattle.table.specs.Search.{Askable, asked, numbers, SlopeFor, EndAt, Scanned};
+ghost use Rattle.table.specs.Search.{Askable, knotsOf, valuesOf, asked, numbers, SlopeFor, EndAt, Scanned};
 ghost use Rattle.table.specs.Fault.{FaultOf};
 use crate::changed;
 use crate::changed::Change;
@@ -38,9 +40,9 @@ fn slope(last: u32, slopes: &[i32], i: usize) -> i32
 
 // Point i, of the points that are asked.
 fn end_at(points: Points, last: u32, knots: &[i32], values: &[i32], slopes: &[i32], i: usize) -> End
-    requires { ⌜ SameLengths (table (now knots) (now values) (now slopes)) ⌝ }
+    requires { ⌜ SameLengths (now knots) (now values) (now slopes) ⌝ }
     requires { ⌜ i < length (now knots) ⌝ }
-    ensures { λ r. ⌜ EndAt (asked points (table (now (knots .entry)) (now (values .entry)) (now (slopes .entry)))) last i (r .knot) (r .value) (r .slope) ⌝ }
+    ensures { λ r. ⌜ EndAt (knotsOf points (now (knots .entry))) (valuesOf points (now (values .entry))) (now (slopes .entry)) last i (r .knot) (r .value) (r .slope) ⌝ }
 {
     let slope = slope(last, slopes, i);
     match points {
@@ -57,11 +59,12 @@ fn end_at(points: Points, last: u32, knots: &[i32], values: &[i32], slopes: &[i3
     }
 }
 
-// The first of the causes 3 up to `last` that holds of the piece between two points, or none. A bend is asked for only where the piece is within the limits.
-fn fault(last: u32, left: End, right: End) -> u32
+// The first of the causes 3 up to `last` that holds of the piece between two points, with slopes in 1/unit, or none. A bend is asked for only where the piece is within the limits.
+fn fault(unit: i64, last: u32, left: End, right: End) -> u32
+    requires { ⌜ UnitSize unit ⌝ }
     requires { ⌜ Within 2147483648 (left .knot) × Within 2147483648 (right .knot) ⌝ }
     requires { ⌜ Within 2147483648 (left .value) × Within 2147483648 (right .value) ⌝ }
-    ensures { λ r. ⌜ FaultOf last (right .knot -ℤ left .knot) (right .value -ℤ left .value) (left .slope) (right .slope) r ⌝ }
+    ensures { λ r. ⌜ FaultOf unit last (right .knot -ℤ left .knot) (right .value -ℤ left .value) (left .slope) (right .slope) r ⌝ }
 {
     let h = right.knot - left.knot;
     if !rules::width_within(h) {
@@ -77,15 +80,16 @@ fn fault(last: u32, left: End, right: End) -> u32
     if last < rules::BEND {
         return rules::DONE;
     }
-    if !piece::is_monotone(h, z, left.slope, right.slope) {
+    if !piece::is_monotone(unit, h, z, left.slope, right.slope) {
         return rules::BEND;
     }
     rules::DONE
 }
 
 // The first piece, `from` or after it, of which one of these causes holds, with the first of them; or none. A piece's right end is carried along as the
-// next one's left.
+// next one's left, and the slope unit is worked out once.
 fn scan(
+    s: u32,
     points: Points,
     last: u32,
     knots: &[i32],
@@ -93,11 +97,13 @@ fn scan(
     slopes: &[i32],
     from: usize,
 ) -> Refusal
+    requires { ⌜ UnitWithin s ⌝ }
     requires { ⌜ Askable last ⌝ }
-    requires { ⌜ SameLengths (table (now knots) (now values) (now slopes)) ⌝ }
+    requires { ⌜ SameLengths (now knots) (now values) (now slopes) ⌝ }
     requires { ⌜ from < length (now knots) ⌝ }
-    ensures { λ r. ⌜ Scanned (Holds (asked points (table (now (knots .entry)) (now (values .entry)) (now (slopes .entry))))) last from (r .number) (r .place) ⌝ }
+    ensures { λ r. ⌜ Scanned (Holds (asked points (table s (now (knots .entry)) (now (values .entry)) (now (slopes .entry))))) last from (r .number) (r .place) ⌝ }
 {
+    let unit = rules::unit(s);
     let mut i = from;
     let mut number = rules::DONE;
     let mut left = end_at(points, last, knots, values, slopes, i);
@@ -109,7 +115,7 @@ fn scan(
             };
         }
         let right = end_at(points, last, knots, values, slopes, i + 1);
-        number = fault(last, left, right);
+        number = fault(unit, last, left, right);
         if number != rules::DONE {
             break i;
         }
@@ -121,22 +127,24 @@ fn scan(
 
 // The first of these causes that holds, at the first piece of which it does, or none. Behind a faulty piece only what comes before its cause is asked.
 pub(crate) fn first(
+    s: u32,
     points: Points,
     last: u32,
     knots: &[i32],
     values: &[i32],
     slopes: &[i32],
 ) -> Refusal
+    requires { ⌜ UnitWithin s ⌝ }
     requires { ⌜ Askable last ⌝ }
-    requires { ⌜ SameLengths (table (now knots) (now values) (now slopes)) ⌝ }
+    requires { ⌜ SameLengths (now knots) (now values) (now slopes) ⌝ }
     requires { ⌜ 0 < length (now knots) ⌝ }
-    ensures { λ r. ⌜ Given (Holds (asked points (table (now (knots .entry)) (now (values .entry)) (now (slopes .entry))))) (numbers 3 (last - 2)) (r .number) (r .place) ⌝ }
+    ensures { λ r. ⌜ Given (Holds (asked points (table s (now (knots .entry)) (now (values .entry)) (now (slopes .entry))))) (numbers 3 (last - 2)) (r .number) (r .place) ⌝ }
 {
-    let found = scan(points, last, knots, values, slopes, 0);
+    let found = scan(s, points, last, knots, values, slopes, 0);
     let mut number = found.number;
     let mut place = found.place;
     while rules::WIDTH < number {
-        let earlier = scan(points, number - 1, knots, values, slopes, place + 1);
+        let earlier = scan(s, points, number - 1, knots, values, slopes, place + 1);
         if earlier.number == rules::DONE {
             break;
         }
