@@ -1,5 +1,5 @@
--- A relation of a call's arguments, as the code has them and plainly: of four, and so of one, two or three.
-use mathlib.Core.Path.{_≡_, sym, subst₂}
+-- A relation of a call's arguments, as the code has them and plainly: of four, and so of one, two, three or five.
+use mathlib.Core.Path.{_≡_, sym, subst, subst₂}
 use mathlib.Core.Bool.{Bool, _&&_}
 use mathlib.Core.List.{List}
 use lib.Dec.{T}
@@ -39,6 +39,16 @@ as-coded₄ Γ R (four c d e f) t h =
     let a = and-yes (sound c) (sound d) (s .0) in
     let b = and-yes (sound e) (sound f) (s .1) in
     same₄ R (sym (plain-is c (a .0))) (sym (plain-is d (a .1))) (sym (plain-is e (b .0))) (sym (plain-is f (b .1))) h
+
+-- ---- of five, of which the first is read by itself
+
+pub plainly₅ : (Γ : List Known) (R : ℤ → ℤ → ℤ → ℤ → ℤ → Type 0) {v x y z u : ℤ} → R v x y z u → (c : Code Γ v) → (t : Four Γ x y z u) → T (sound c && sound-all t) → Plainly (R (plain c)) t
+plainly₅ Γ R {x = x} {y} {z} {u} h c t k =
+    let s = and-yes (sound c) (sound-all t) k in plainly₄ Γ (R (plain c)) (subst (λ (v : ℤ). R v x y z u) (plain-is c (s .0)) h) t (s .1)
+
+pub as-coded₅ : (Γ : List Known) (R : ℤ → ℤ → ℤ → ℤ → ℤ → Type 0) {v x y z u : ℤ} (c : Code Γ v) (t : Four Γ x y z u) → T (sound c && sound-all t) → Plainly (R (plain c)) t → R v x y z u
+as-coded₅ Γ R {x = x} {y} {z} {u} c t k h =
+    let s = and-yes (sound c) (sound-all t) k in subst (λ (v : ℤ). R v x y z u) (sym (plain-is c (s .0))) (as-coded₄ Γ (R (plain c)) t (s .1) h)
 
 -- ---- of one, of two, and of three
 

@@ -5,13 +5,13 @@ use Prim.Native.Nat.{ℕ, suc, _≤_, _<_}
 use native.Mathlib.Omega.{arith}
 use lib.Dec.{T}
 use lib.ListN.{length, length-set}
-use Rattle.rules.specs.Limits.{CountWithin}
+use Rattle.rules.specs.Limits.{UnitWithin, CountWithin}
 use Rattle.rules.specs.Refusals.{Given, done, refused, passed}
 use Rattle.rules.specs.Order.{Same, none, also, without, one-more-cause, other-way, carried, unasked, asked-too, clear, behind}
 use Rattle.table.specs.declared.changed.Change.{Change}
-use Rattle.table.specs.Table.{Table, pointCount, SameLengths, Holds, lengths-differ, too-few-or-many, buildOrder}
+use Rattle.table.specs.Table.{Table, pointCount, SameLengths, Holds, no-such-unit, lengths-differ, too-few-or-many, outlineOrder, buildOrder}
 use Rattle.table.specs.WouldBe.{changedBy, HoldsAfter, of-points, no-such-point, changeOrder}
-use Rattle.table.specs.Accepted.{PointsWithin, at-most, same-lengths, accepted-points}
+use Rattle.table.specs.Accepted.{PointsWithin, at-most, unit-asked, lengths-asked, accepted-points}
 
 module _ (c : Change) (t : Table) where
   as-many : pointCount (changedBy c t) ≡ pointCount t
@@ -20,16 +20,29 @@ module _ (c : Change) (t : Table) where
   as-many-values : length (changedBy c t .values) ≡ length (t .values)
   as-many-values = length-set (t .values) (c .point) (c .value)
 
-  lengths-then : SameLengths t → SameLengths (changedBy c t)
+  -- the lists are equally long, and those of the changed points are
+  abbrev Before : Type 0
+  Before = SameLengths (t .knots) (t .values) (t .slopes)
+
+  abbrev Then : Type 0
+  Then = SameLengths (changedBy c t .knots) (changedBy c t .values) (t .slopes)
+
+  lengths-then : Before → Then
   lengths-then s = record { values = as-many-values ∙ s .values ∙ sym as-many; slopes = s .slopes ∙ sym as-many }
 
-  lengths-before : SameLengths (changedBy c t) → SameLengths t
+  lengths-before : Then → Before
   lengths-before s = record { values = sym as-many-values ∙ s .values ∙ as-many; slopes = s .slopes ∙ as-many }
 
-  -- 1 and 2 are the same before and after
-  same-lists : Same (Holds t) (Holds (changedBy c t)) (1 ∷ 2 ∷ [])
-  same-lists = also differ-then differ-before (also count-then count-before none)
+  -- 12, 1 and 2 are the same before and after
+  same-outline : Same (Holds t) (Holds (changedBy c t)) outlineOrder
+  same-outline = also unit-then unit-before (also differ-then differ-before (also count-then count-before none))
     where
+      unit-then : (p : ℕ) → Holds t 12 p → Holds (changedBy c t) 12 p
+      unit-then p (no-such-unit f) = no-such-unit f
+
+      unit-before : (p : ℕ) → Holds (changedBy c t) 12 p → Holds t 12 p
+      unit-before p (no-such-unit f) = no-such-unit f
+
       differ-then : (p : ℕ) → Holds t 1 p → Holds (changedBy c t) 1 p
       differ-then p (lengths-differ f) = lengths-differ (λ s. f (lengths-before s))
 
@@ -50,8 +63,8 @@ module _ (c : Change) (t : Table) where
   pub beside-7 : (order : List ℕ) → T (without 7 order) → Same (Holds (changedBy c t)) (HoldsAfter c t) order
   beside-7 order = one-more-cause 7 order (λ _ _. of-points) points-alone
 
-  pub as-counted : {n p : ℕ} → Given (Holds t) (1 ∷ 2 ∷ []) n p → Given (HoldsAfter c t) (1 ∷ 2 ∷ []) n p
-  as-counted g = carried (beside-7 (1 ∷ 2 ∷ []) tt) (carried same-lists g)
+  pub as-outlined : {n p : ℕ} → Given (Holds t) outlineOrder n p → Given (HoldsAfter c t) outlineOrder n p
+  as-outlined g = carried (beside-7 outlineOrder tt) (carried same-outline g)
 
   pub as-stepped : {n p : ℕ} → Given (Holds (changedBy c t)) (3 ∷ 4 ∷ []) n p → Given (HoldsAfter c t) (3 ∷ 4 ∷ []) n p
   as-stepped = carried (beside-7 (3 ∷ 4 ∷ []) tt)
@@ -68,18 +81,21 @@ module _ (c : Change) (t : Table) where
 
   -- where the point is there, the order is that of a build of the points as they would be
   pub as-a-build : {n p : ℕ} → c .point < pointCount t → Given (HoldsAfter c t) changeOrder n p → Given (Holds (changedBy c t)) buildOrder n p
-  as-a-build l g = carried (other-way (beside-7 buildOrder tt)) (unasked (1 ∷ 2 ∷ []) 7 (3 ∷ 4 ∷ []) (there l) g)
+  as-a-build l g = carried (other-way (beside-7 buildOrder tt)) (unasked outlineOrder 7 (3 ∷ 4 ∷ []) (there l) g)
 
   pub as-changed : {n p : ℕ} → c .point < pointCount t → Given (Holds (changedBy c t)) buildOrder n p → Given (HoldsAfter c t) changeOrder n p
-  as-changed l g = asked-too (1 ∷ 2 ∷ []) 7 (3 ∷ 4 ∷ []) (there l) (carried (beside-7 buildOrder tt) g)
+  as-changed l g = asked-too outlineOrder 7 (3 ∷ 4 ∷ []) (there l) (carried (beside-7 buildOrder tt) g)
 
   -- what is known where nothing is refused
   module _ {n p : ℕ} (e : n ≡ 0) (g : Given (HoldsAfter c t) changeOrder n p) where
     pub point-there : c .point < pointCount t
-    point-there = at-most (λ (l : pointCount t < suc (c .point)). clear e (behind (1 ∷ 2 ∷ []) e g) 0 (no-such-point (λ (k : c .point < pointCount t). omega arith)))
+    point-there = at-most (λ (l : pointCount t < suc (c .point)). clear e (behind outlineOrder e g) 0 (no-such-point (λ (k : c .point < pointCount t). omega arith)))
 
     pub accepted-then : PointsWithin (changedBy c t .knots) (changedBy c t .values)
     accepted-then = accepted-points e (as-a-build point-there g)
 
-    pub equally-long : SameLengths t
-    equally-long = lengths-before (same-lengths (clear e (as-a-build point-there g)))
+    pub unit-then-and-before : UnitWithin (t .s)
+    unit-then-and-before = unit-asked e (as-a-build point-there g)
+
+    pub equally-long : Before
+    equally-long = lengths-before (lengths-asked e (as-a-build point-there g))

@@ -8,17 +8,29 @@ use native.Mathlib.Omega.{arith}
 use lib.ListN.{length}
 use Rattle.integers.specs.Decided.{or-not, alike-or-not, both-or-not, fails-or-not, between-or-not}
 use Rattle.cubic.specs.Decided.{monotone-or-not}
-use Rattle.rules.specs.Limits.{CountWithin, WidthWithin, RiseWithin}
-use Rattle.rules.specs.Found.{Searched, searched-at-0, searched-below, SomeGiven, none, also, found, found-on, found-as}
+use Rattle.rules.specs.Limits.{UnitWithin, CountWithin, WidthWithin, RiseWithin}
+use Rattle.rules.specs.Found.{unit-or-not, Searched, searched-at-0, searched-below, SomeGiven, none, also, found, found-on, found-as}
 use Rattle.table.specs.declared.changed.Change.{Change}
-use Rattle.table.specs.Table.{Table, step, pointCount, SameLengths, MonotoneAt, Holds, lengths-differ, too-few-or-many, width-outside, rise-outside, not-monotone, buildOrder, checkOrder}
+use Rattle.table.specs.Table.{Table, step, pointCount, SameLengths, MonotoneAt, Holds, no-such-unit, lengths-differ, too-few-or-many, width-outside, rise-outside, not-monotone, outlineOrder, buildOrder, checkOrder}
 use Rattle.table.specs.WouldBe.{changedBy, HoldsAfter, changeOrder}
 use Rattle.table.specs.Accepted.{at-most}
-use Rattle.table.specs.AfterChange.{as-counted, as-stepped, refused-nowhere, taken-there}
+use Rattle.table.specs.AfterChange.{as-outlined, as-stepped, refused-nowhere, taken-there}
 
 module _ (t : Table) where
-  -- 1 and 2, at place 0
-  same-lengths-or-not : SameLengths t ⊎ (SameLengths t → ⊥)
+  -- 12, 1 and 2, at place 0
+  unit-searched : Searched (Holds t 12)
+  unit-searched = searched-at-0 only (alike-or-not no-such-unit outside (fails-or-not (unit-or-not (t .s))))
+    where
+      only : (p : ℕ) → Holds t 12 p → p ≡ 0
+      only p (no-such-unit f) = refl
+
+      outside : Holds t 12 0 → UnitWithin (t .s) → ⊥
+      outside (no-such-unit f) = f
+
+  abbrev EquallyLong : Type 0
+  EquallyLong = SameLengths (t .knots) (t .values) (t .slopes)
+
+  same-lengths-or-not : EquallyLong ⊎ (EquallyLong → ⊥)
   same-lengths-or-not =
       alike-or-not (λ w. record { values = w .0; slopes = w .1 }) (λ s. (s .values, s .slopes))
       (both-or-not (or-not (ℕ-discrete (length (t .values)) (pointCount t))) (or-not (ℕ-discrete (length (t .slopes)) (pointCount t))))
@@ -29,7 +41,7 @@ module _ (t : Table) where
       only : (p : ℕ) → Holds t 1 p → p ≡ 0
       only p (lengths-differ f) = refl
 
-      differ : Holds t 1 0 → SameLengths t → ⊥
+      differ : Holds t 1 0 → EquallyLong → ⊥
       differ (lengths-differ f) = f
 
   count-or-not : CountWithin (pointCount t) ⊎ (CountWithin (pointCount t) → ⊥)
@@ -71,14 +83,14 @@ module _ (t : Table) where
       fault : (i : ℕ) → Holds t 5 i → (i + 1 < pointCount t) × (MonotoneAt t i → ⊥)
       fault i (not-monotone l f) = (l, f)
 
-  counted : SomeGiven (Holds t) (1 ∷ 2 ∷ [])
-  counted = found (also lengths-searched (also count-searched none))
+  outlined : SomeGiven (Holds t) outlineOrder
+  outlined = found (also unit-searched (also lengths-searched (also count-searched none)))
 
   stepped : SomeGiven (Holds t) (3 ∷ 4 ∷ [])
   stepped = found (also widths-searched (also rises-searched none))
 
   pub every-table-has-an-answer-to-a-build : SomeGiven (Holds t) buildOrder
-  every-table-has-an-answer-to-a-build = found-on counted (λ _. stepped)
+  every-table-has-an-answer-to-a-build = found-on outlined (λ _. stepped)
 
   pub every-table-has-an-answer-to-a-check : SomeGiven (Holds t) checkOrder
   every-table-has-an-answer-to-a-check = found-on every-table-has-an-answer-to-a-build (λ _. found (also bends-searched none))
@@ -90,4 +102,4 @@ module _ (c : Change) (t : Table) where
       (or-not (decLt (c .point) (pointCount t)))
 
   pub every-change-has-an-answer : SomeGiven (HoldsAfter c t) changeOrder
-  every-change-has-an-answer = found-on (found-as (λ _ _. as-counted c t) (counted t)) (λ _. found-on point-given (λ _. found-as (λ _ _. as-stepped c t) (stepped (changedBy c t))))
+  every-change-has-an-answer = found-on (found-as (λ _ _. as-outlined c t) (outlined t)) (λ _. found-on point-given (λ _. found-as (λ _ _. as-stepped c t) (stepped (changedBy c t))))

@@ -130,6 +130,6 @@ module _ (c : Change) (ks vs : List ℤ) where
 
 -- ---- no piece is refused where all are within the limits
 
-pub none-refused : {ks vs ss : List ℤ} {end : ℕ} → length ks ≤ end + 1 → PiecesWithin ks vs 0 end → Given (Holds (table ks vs ss)) (3 ∷ 4 ∷ []) 0 0
+pub none-refused : {s : ℕ} {ks vs ss : List ℤ} {end : ℕ} → length ks ≤ end + 1 → PiecesWithin ks vs 0 end → Given (Holds (table s ks vs ss)) (3 ∷ 4 ∷ []) 0 0
 none-refused l p =
     steps-accepted (λ i m. p .each i (omega arith) (omega (arith, l, m)) .width) (λ i m. p .each i (omega arith) (omega (arith, l, m)) .rise)

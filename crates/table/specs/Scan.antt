@@ -28,8 +28,8 @@ module _ (H : ℕ → ℕ → Type 0) where
   -- ---- one way through the pieces
 
   module _ {last from i : ℕ} (before : (q : ℕ) → q < i → from ≤ q → SoundAt H last q) where
-    pub nothing-there : (n : ℕ) → ((c q : ℕ) → 3 ≤ c → H c q → q + 1 < n) → n - i < 2 → Scanned H last from 0 0
-    nothing-there n there l = clean (λ q f c a b h. before q (omega (arith, there c q a h, l)) f c a b h)
+    pub nothing-there : (n : ℕ) → ((c q : ℕ) → 3 ≤ c → c ≤ last → H c q → q + 1 < n) → n - i < 2 → Scanned H last from 0 0
+    nothing-there n there l = clean (λ q f c a b h. before q (omega (arith, there c q a b h, l)) f c a b h)
 
     pub fault-there : {n : ℕ} → (n ≡ 0 → ⊥) → from ≤ i → FaultAt H last i n → Scanned H last from n i
     fault-there f l (sound s) = absurd (f refl)
@@ -77,9 +77,9 @@ module _ (H : ℕ → ℕ → Type 0) where
   found-within (found l (faulty a b h s) f) = b
 
   -- where it stands there is a piece
-  pub standing-there : {last n p : ℕ} → 3 < n → Standing last n p → (m : ℕ) → ((c q : ℕ) → 3 ≤ c → H c q → q + 1 < m) → p + 1 < m
+  pub standing-there : {last n p : ℕ} → 3 < n → Standing last n p → (m : ℕ) → ((c q : ℕ) → 3 ≤ c → c ≤ last → H c q → q + 1 < m) → p + 1 < m
   standing-there l (nothing s) m there = absurd (omega (arith, l))
-  standing-there l (so-far a b h u v) m there = there _ _ a h
+  standing-there l (so-far a b h u v) m there = there _ _ a b h
 
   pub standing-within : {last n p : ℕ} → Standing last n p → n ≤ last
   standing-within (nothing s) = omega arith

@@ -24,7 +24,7 @@ valuesOf Now vs = vs
 valuesOf (After c) vs = set vs (c .point) (c .value)
 
 abbrev pub asked : Points → Table → Table
-asked p t = table (knotsOf p (t .knots)) (valuesOf p (t .values)) (t .slopes)
+asked p t = table (t .s) (knotsOf p (t .knots)) (valuesOf p (t .values)) (t .slopes)
 
 pub as-many : (p : Points) (t : Table) → pointCount (asked p t) ≡ pointCount t
 as-many Now t = refl
@@ -57,10 +57,10 @@ pub as-it-came : (list : List ℤ) (at : ℕ) {new : ℤ} → SFits w32 new → 
 as-it-came list at f = ap (set list at) (toZ-ofZ f)
 
 -- point i
-pub record EndAt (t : Table) (last i : ℕ) (knot value slope : ℤ) : Type 0 where
-  pub knot-read : Read (entry (t .knots) i) knot
-  pub value-read : Read (entry (t .values) i) value
-  pub slope-read : SlopeFor last (t .slopes) i slope
+pub record EndAt (knots values slopes : List ℤ) (last i : ℕ) (knot value slope : ℤ) : Type 0 where
+  pub knot-read : Read (entry knots i) knot
+  pub value-read : Read (entry values i) value
+  pub slope-read : SlopeFor last slopes i slope
 
 module _ (H : ℕ → ℕ → Type 0) where
   -- none of the causes from 3 up to `last` holds at the place

@@ -4,29 +4,30 @@ use mathlib.Core.List.{List, [], _∷_}
 use lib.IntN.{ℤ}
 use mir.Syntax.{w32}
 use Rattle.integers.specs.Sizes.{Known, known, held, fits, sized, plain-is, code}
-use Rattle.integers.specs.Arguments.{arguments, plainly₄}
-use Rattle.cubic.specs.Piece.{unit}
-use Rattle.rules.specs.Known.{known-width, known-rise}
+use Rattle.integers.specs.Arguments.{arguments, as-coded₁, plainly₅}
+use Rattle.rules.specs.Known.{UnitSize, known-unit, known-width, known-rise}
 use Rattle.piece.specs.Cubic.{UnitsOf, of-units}
 use Rattle.piece.proofs.coefficients.Statement.{statement}
 use Rattle.piece.proofs.coefficients.Tie as tie
 
 abbrev given : tie.Start → List Known
 given s =
-    known-width (s .args .h) (s .pre .0)
-    ∷ known-rise (s .args .z) (s .pre .1)
+    known-unit (s .args .unit) (s .pre .0)
+    ∷ known-width (s .args .h) (s .pre .1 .0)
+    ∷ known-rise (s .args .z) (s .pre .1 .1)
     ∷ held w32 (s .args .m) (s .fits .m)
     ∷ held w32 (s .args .n) (s .fits .n)
     ∷ []
 
 in-units-requires : tie.Need-in-units-requires
-in-units-requires c κs = (sized (given c) (search code depth 30 fits 9000) tt, sized (given c) (search code depth 30 fits 9000) tt)
+in-units-requires c κs =
+    (as-coded₁ (given c) UnitSize (search arguments depth 30 fits 9000) tt (c .pre .0), (sized (given c) (search code depth 30 fits 9000) tt, sized (given c) (search code depth 30 fits 9000) tt))
 
 -- Z, a and b
-units : (c : tie.After-in-units) → let s = c .before .args in let r = c .in-units .result in UnitsOf unit (s .h) (s .z) (s .m) (s .n) (r .rise) (r .a) (r .b)
+units : (c : tie.After-in-units) → let s = c .before .args in let r = c .in-units .result in UnitsOf (s .unit) (s .h) (s .z) (s .m) (s .n) (r .rise) (r .a) (r .b)
 units c =
     let r = c .in-units .result in
-    plainly₄ (given (c .before)) (λ (h z m n : ℤ). UnitsOf unit h z m n (r .rise) (r .a) (r .b)) (c .in-units .ensures .0) (search arguments depth 30 fits 9000) tt
+    plainly₅ (given (c .before)) (λ (U h z m n : ℤ). UnitsOf U h z m n (r .rise) (r .a) (r .b)) (c .in-units .ensures .0) (search code depth 30 fits 9000) (search arguments depth 30 fits 9000) tt
 
 abbrev made : tie.After-in-units → List Known
 made c =

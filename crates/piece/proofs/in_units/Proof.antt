@@ -2,12 +2,13 @@
 use mathlib.Core.List.{List, [], _∷_}
 use mir.Syntax.{w32}
 use Rattle.integers.specs.Sizes.{Known, known, held, fits, sized, plain-is, code}
+use Rattle.rules.specs.Known.{known-unit}
 use Rattle.piece.proofs.in_units.Statement.{statement}
 use Rattle.piece.proofs.in_units.Tie as tie
 
 abbrev given : tie.Start → List Known
 given s =
-    known (s .args .h) _ (s .pre .0) ∷ known (s .args .z) _ (s .pre .1) ∷ held w32 (s .args .m) (s .fits .m) ∷ held w32 (s .args .n) (s .fits .n) ∷ []
+    known-unit (s .args .unit) (s .pre .0) ∷ known (s .args .h) _ (s .pre .1 .0) ∷ known (s .args .z) _ (s .pre .1 .1) ∷ held w32 (s .args .m) (s .fits .m) ∷ held w32 (s .args .n) (s .fits .n) ∷ []
 
 mul-rise : tie.Need-mul-rise
 mul-rise c = fits (given c) (search code depth 30 fits 9000) tt

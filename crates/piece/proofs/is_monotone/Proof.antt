@@ -7,10 +7,10 @@ use Rattle.integers.specs.Promise.{withSign}
 use Rattle.integers.specs.Decided.{decided-by, told, denied}
 use Rattle.integers.specs.Within.{Within}
 use Rattle.integers.specs.Sizes.{Known, known, held, sized, code}
-use Rattle.integers.specs.Arguments.{arguments, same₄, plainly₂, plainly₃, plainly₄, as-coded₃}
-use Rattle.cubic.specs.Piece.{unit, NeverAgainst}
+use Rattle.integers.specs.Arguments.{arguments, same₄, as-coded₁, plainly₂, plainly₃, plainly₅, as-coded₃}
+use Rattle.cubic.specs.Piece.{NeverAgainst}
 use Rattle.cubic.specs.OneTest.{Turned, turned-accepts, turned-complete}
-use Rattle.rules.specs.Known.{known-width, known-rise}
+use Rattle.rules.specs.Known.{UnitSize, known-unit, known-width, known-rise}
 use Rattle.piece.specs.Sizes.{WithSign, as-large, Moderate}
 use Rattle.piece.specs.Cubic.{UnitsOf}
 use Rattle.piece.proofs.is_monotone.Statement.{statement}
@@ -19,8 +19,9 @@ use Rattle.piece.proofs.is_monotone.Tie as tie
 -- what the limits and the types say of the arguments
 abbrev given : tie.Start → List Known
 given s =
-    known-width (s .args .h) (s .pre .0)
-    ∷ known-rise (s .args .z) (s .pre .1)
+    known-unit (s .args .unit) (s .pre .0)
+    ∷ known-width (s .args .h) (s .pre .1 .0)
+    ∷ known-rise (s .args .z) (s .pre .1 .1)
     ∷ held w32 (s .args .m) (s .fits .m)
     ∷ held w32 (s .args .n) (s .fits .n)
     ∷ []
@@ -51,18 +52,19 @@ after c =
     known (c .before .turned .result) 1024 (width-size (c .before)) ∷ known (c .turned2 .result) 1048576 (rise-size c) ∷ given (c .before .before)
 
 in-units-requires : tie.Need-in-units-requires
-in-units-requires c κs = (sized (after c) (search code depth 30 fits 9000) tt, sized (after c) (search code depth 30 fits 9000) tt)
+in-units-requires c κs =
+    (as-coded₁ (after c) UnitSize (search arguments depth 30 fits 9000) tt (c .before .before .pre .0), (sized (after c) (search code depth 30 fits 9000) tt, sized (after c) (search code depth 30 fits 9000) tt))
 
 -- its Z, a and b
 module _ (c : tie.After-in-units) where
   abbrev s : tie.Start
   s = c .before .before .before
 
-  units : let r = c .in-units .result in UnitsOf unit (withSign (s .args .z) (s .args .h)) (withSign (s .args .z) (s .args .z)) (s .args .m) (s .args .n) (r .rise) (r .a) (r .b)
+  units : let r = c .in-units .result in UnitsOf (s .args .unit) (withSign (s .args .z) (s .args .h)) (withSign (s .args .z) (s .args .z)) (s .args .m) (s .args .n) (r .rise) (r .a) (r .b)
   units =
       let r = c .in-units .result in
-      same₄ (λ (h z m n : ℤ). UnitsOf unit h z m n (r .rise) (r .a) (r .b)) (width (c .before .before) .is) (rise (c .before) .is) refl refl
-      (plainly₄ (after (c .before)) (λ (h z m n : ℤ). UnitsOf unit h z m n (r .rise) (r .a) (r .b)) (c .in-units .ensures .0) (search arguments depth 30 fits 9000) tt)
+      same₄ (λ (h z m n : ℤ). UnitsOf (s .args .unit) h z m n (r .rise) (r .a) (r .b)) (width (c .before .before) .is) (rise (c .before) .is) refl refl
+      (plainly₅ (after (c .before)) (λ (U h z m n : ℤ). UnitsOf U h z m n (r .rise) (r .a) (r .b)) (c .in-units .ensures .0) (search code depth 30 fits 9000) (search arguments depth 30 fits 9000) tt)
 
   moderate : let r = c .in-units .result in Moderate (r .rise) (r .a) (r .b)
   moderate = c .in-units .ensures .1
@@ -73,10 +75,10 @@ module _ (c : tie.After-in-units) where
       known (r .rise) _ (moderate .rise) ∷ known (r .a) _ (moderate .start) ∷ known (r .b) _ (moderate .end) ∷ []
 
   -- what is never against the rise is the piece turned
-  turned-so : let r = c .in-units .result in NeverAgainst (r .rise) (r .a) (r .b) → Turned unit (s .args .h) (s .args .z) (s .args .m) (s .args .n)
+  turned-so : let r = c .in-units .result in NeverAgainst (r .rise) (r .a) (r .b) → Turned (s .args .unit) (s .args .h) (s .args .z) (s .args .m) (s .args .n)
   turned-so = same₄ (λ (Z a b _ : ℤ). NeverAgainst Z a b) {u = pos 0} (units .rise-is) (units .a-is) (units .b-is) refl
 
-  so-turned : let r = c .in-units .result in Turned unit (s .args .h) (s .args .z) (s .args .m) (s .args .n) → NeverAgainst (r .rise) (r .a) (r .b)
+  so-turned : let r = c .in-units .result in Turned (s .args .unit) (s .args .h) (s .args .z) (s .args .m) (s .args .n) → NeverAgainst (r .rise) (r .a) (r .b)
   so-turned = same₄ (λ (Z a b _ : ℤ). NeverAgainst Z a b) {u = pos 0} (sym (units .rise-is)) (sym (units .a-is)) (sym (units .b-is)) refl
 
 -- ---- the test
@@ -90,8 +92,8 @@ returns c =
     let p = c .before .before .before .before in
     let a = p .before .before .before .args in
     decided-by _
-    (λ e. turned-accepts unit (a .h) (a .z) (a .m) (a .n) (turned-so p (plainly₃ (made p) NeverAgainst (told (c .never-against .ensures) e) (search arguments depth 30 fits 9000) tt)))
-    (λ e m. denied (c .never-against .ensures) e (as-coded₃ (made p) NeverAgainst (search arguments depth 30 fits 9000) tt (so-turned p (turned-complete unit (a .h) (a .z) (a .m) (a .n) m))))
+    (λ e. turned-accepts (a .unit) (a .h) (a .z) (a .m) (a .n) (turned-so p (plainly₃ (made p) NeverAgainst (told (c .never-against .ensures) e) (search arguments depth 30 fits 9000) tt)))
+    (λ e m. denied (c .never-against .ensures) e (as-coded₃ (made p) NeverAgainst (search arguments depth 30 fits 9000) tt (so-turned p (turned-complete (a .unit) (a .h) (a .z) (a .m) (a .n) m))))
 
 pub is-monotone-spec : {M : Type 1} → statement M
 is-monotone-spec = tie.close (tie.spec turned-requires turned-requires-2 in-units-requires never-against-requires returns)

@@ -8,8 +8,8 @@ use borrow.Author.Needs.{needs}
 use Rattle.integers.specs.Sizes.{returned}
 use Rattle.table.specs.declared.search.Points.{Points}
 use Rattle.table.specs.declared.search.Points.the-variants.{Now, After}
-use Rattle.table.specs.Table.{Table, table, entry}
-use Rattle.table.specs.Search.{asked, Read, as-read, as-it-came, EndAt}
+use Rattle.table.specs.Table.{entry}
+use Rattle.table.specs.Search.{knotsOf, valuesOf, Read, as-read, as-it-came, EndAt}
 use Rattle.table.proofs.search.end_at.Statement.{statement}
 use Rattle.table.proofs.search.end_at.Tie as tie
 
@@ -34,18 +34,20 @@ entry-requires-3 c κs = search needs
 entry-requires-4 : tie.Need-entry-requires-4
 entry-requires-4 c κs = search needs
 
-abbrev given : tie.Start → Table
-given s = table (s .args .knots .now) (s .args .values .now) (s .args .slopes .now)
-
 -- point i, by what was read of the points p, which are those that were given
 module _ (c : tie.After-slope) where
   abbrev s : tie.Start
   s = c .before
 
-  is-end : (p : Points) {knot value : ℤ} → s .args .points ≡ p → Read (entry (asked p (given s) .knots) (s .args .i)) knot → Read (entry (asked p (given s) .values) (s .args .i)) value
-      → EndAt (asked (s .args .points) (given s)) (s .args .last) (s .args .i) knot value (toZ w32 (ofZ w32 (c .slope .result)))
+  -- as the point of the points q
+  abbrev As : (q : Points) (knot value : ℤ) → Type 0
+  As q knot value =
+      EndAt (knotsOf q (s .args .knots .now)) (valuesOf q (s .args .values .now)) (s .args .slopes .now) (s .args .last) (s .args .i) knot value (toZ w32 (ofZ w32 (c .slope .result)))
+
+  is-end : (p : Points) {knot value : ℤ} → s .args .points ≡ p → Read (entry (knotsOf p (s .args .knots .now)) (s .args .i)) knot → Read (entry (valuesOf p (s .args .values .now)) (s .args .i)) value
+      → As (s .args .points) knot value
   is-end p {knot} {value} e k v =
-      subst (λ (q : Points). EndAt (asked q (given s)) (s .args .last) (s .args .i) knot value (toZ w32 (ofZ w32 (c .slope .result)))) (sym e)
+      subst (λ (q : Points). As q knot value) (sym e)
       (record { knot-read = k; value-read = v; slope-read = record { is = λ l. returned w32 (c .slope .ok) (c .slope .ensures .is l) } })
 
 returns : tie.Need-returns

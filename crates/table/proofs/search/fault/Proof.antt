@@ -9,9 +9,10 @@ use borrow.Author.Tests.{not-true, not-false}
 use Rattle.integers.specs.Promise.{Decided}
 use Rattle.integers.specs.Decided.{told, denied, asked}
 use Rattle.integers.specs.Sizes.{Known, known, held, fits, plain-is, code}
-use Rattle.integers.specs.Arguments.{arguments, plainly₄}
-use Rattle.cubic.specs.Piece.{unit, Monotone}
+use Rattle.integers.specs.Arguments.{arguments, as-coded₁, plainly₅}
+use Rattle.cubic.specs.Piece.{Monotone}
 use Rattle.rules.specs.Limits.{WidthWithin, RiseWithin}
+use Rattle.rules.specs.Known.{UnitSize, known-unit}
 use Rattle.table.specs.Fault.{none, in-width, in-rise, in-cubic}
 use Rattle.table.proofs.search.fault.Statement.{statement}
 use Rattle.table.proofs.search.fault.Tie as tie
@@ -21,7 +22,12 @@ abbrev given : tie.Start → List Known
 given s =
     let l = s .args .left in
     let r = s .args .right in
-    known (l .knot) _ (s .pre .0 .0) ∷ known (r .knot) _ (s .pre .0 .1) ∷ known (l .value) _ (s .pre .1 .0) ∷ known (r .value) _ (s .pre .1 .1) ∷ []
+    known-unit (s .args .unit) (s .pre .0)
+    ∷ known (l .knot) _ (s .pre .1 .0 .0)
+    ∷ known (r .knot) _ (s .pre .1 .0 .1)
+    ∷ known (l .value) _ (s .pre .1 .1 .0)
+    ∷ known (r .value) _ (s .pre .1 .1 .1)
+    ∷ []
 
 -- ---- the width
 
@@ -88,14 +94,16 @@ before-z c = c .before .before .before .before .before .before .before
 is-monotone-requires : tie.Need-is-monotone-requires
 is-monotone-requires c κs =
     let e = c .before .before in
-    (told (before-z e .before .before .width-within .ensures) (not-false _ (before-z e .before .if1 .left)), told (e .before .before .rise-within .ensures) (not-false _ (e .before .if3 .left)))
+    let s = start (before-z e) in
+    (as-coded₁ (given s) UnitSize (search arguments depth 30 fits 9000) tt (s .pre .0),
+    (told (before-z e .before .before .width-within .ensures) (not-false _ (before-z e .before .if1 .left)), told (e .before .before .rise-within .ensures) (not-false _ (e .before .if3 .left))))
 
-monotone : (c : tie.After-is-monotone) → let s = start (before-z (c .before .before .before)) in Decided (Monotone unit (h s) (z s) (s .args .left .slope) (s .args .right .slope)) (c .is-monotone .result)
+monotone : (c : tie.After-is-monotone) → let s = start (before-z (c .before .before .before)) in Decided (Monotone (s .args .unit) (h s) (z s) (s .args .left .slope) (s .args .right .slope)) (c .is-monotone .result)
 monotone c =
     let s = start (before-z (c .before .before .before)) in
     let m = held w32 (s .args .left .slope) (record { sfits = c .before .before .struct-told5 .given .1 .1 .0 .1 }) in
     let n = held w32 (s .args .right .slope) (record { sfits = c .before .struct-told6 .given .1 .1 .0 .1 }) in
-    plainly₄ (m ∷ n ∷ given s) (λ (h z m n : ℤ). Decided (Monotone unit h z m n) (c .is-monotone .result)) (c .is-monotone .ensures) (search arguments depth 30 fits 9000) tt
+    plainly₅ (m ∷ n ∷ given s) (λ (U h z m n : ℤ). Decided (Monotone U h z m n) (c .is-monotone .result)) (c .is-monotone .ensures) (search code depth 30 fits 9000) (search arguments depth 30 fits 9000) tt
 
 returns-5 : tie.Need-returns-5
 returns-5 c =
