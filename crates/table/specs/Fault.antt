@@ -67,6 +67,8 @@ module _ (t : Table) where
 pub asked-there : (p : Points) (t : Table) (c q : ℕ) → 3 ≤ c → c ≤ 5 → Holds (asked p t) c q → q + 1 < pointCount t
 asked-there p t c q a b h = subst (λ (n : ℕ). q + 1 < n) (as-many p t) (piece-there (asked p t) c q a b h)
 
-pub fault-between : (p : Points) (t : Table) {last i n : ℕ} {k v m k' v' m' : ℤ} → Askable last → i + 1 < pointCount t → EndAt (knotsOf p (t .knots)) (valuesOf p (t .values)) (t .slopes) last i k v m → EndAt (knotsOf p (t .knots)) (valuesOf p (t .values)) (t .slopes) last (i + 1) k' v' m' → FaultOf (unit (t .s)) last (k' -ℤ k) (v' -ℤ v) m m' n
+pub fault-between : (p : Points) (t : Table) {last i n : ℕ} {U k v m k' v' m' : ℤ} → Askable last → i + 1 < pointCount t → U ≡ unit (t .s)
+    → EndAt (knotsOf p (t .knots)) (valuesOf p (t .values)) (t .slopes) last i k v m → EndAt (knotsOf p (t .knots)) (valuesOf p (t .values)) (t .slopes) last (i + 1) k' v' m' → FaultOf U last (k' -ℤ k) (v' -ℤ v) m m' n
     → FaultAt (Holds (asked p t)) last i n
-fault-between p t {i = i} a here = fault-at (asked p t) a (subst (λ (n : ℕ). i + 1 < n) (sym (as-many p t)) here)
+fault-between p t {last} {i} {n} {k = k} {v} {m} {k'} {v'} {m'} a here e l r f =
+    fault-at (asked p t) a (subst (λ (n : ℕ). i + 1 < n) (sym (as-many p t)) here) l r (subst (λ (U : ℤ). FaultOf U last (k' -ℤ k) (v' -ℤ v) m m' n) e f)

@@ -1,9 +1,7 @@
 -- `table::search::scan` meets its contract: up to where the loop stands every piece is sound, and the point there is at hand.
-use mathlib.Core.Path.{subst}
 use mathlib.Core.List.{[], _∷_}
 use Prim.Native.Nat.{ℕ, _+_, _-_, _≤_, _<_}
 use native.Mathlib.Omega.{arith}
-use lib.IntN.{ℤ}
 use lib.ListN.{length}
 use mir.Syntax.{w64}
 use borrow.Author.Needs.{needs}
@@ -13,7 +11,7 @@ use Rattle.integers.specs.Arguments.{arguments, as-coded₁}
 use Rattle.rules.specs.Known.{UnitSize, known-unit}
 use Rattle.table.specs.Table.{Table, table, Holds}
 use Rattle.table.specs.Search.{asked, EndAt, SoundAt, FaultAt, is-sound}
-use Rattle.table.specs.Fault.{FaultOf, asked-there, fault-between}
+use Rattle.table.specs.Fault.{asked-there, fault-between}
 use Rattle.table.specs.Scan.{nothing-there, fault-there}
 use Rattle.table.proofs.search.scan.Statement.{statement}
 use Rattle.table.proofs.search.scan.Tie as tie
@@ -79,8 +77,7 @@ found c =
     let p = c .before .before in
     let u = before-loop (c .before) in
     let s = u .before in
-    fault-between (s .args .points) (given s) (s .pre .1 .0) (omega (arith, p .if1 .left)) (p .before .loop .inv .2) (c .before .end-at2 .ensures)
-    (subst (λ (U : ℤ). FaultOf U (s .args .last) _ _ _ _ (c .fault .result)) (returned w64 (u .unit .ok) (u .unit .ensures .0)) (c .fault .ensures))
+    fault-between (s .args .points) (given s) (s .pre .1 .0) (omega (arith, p .if1 .left)) (returned w64 (u .unit .ok) (u .unit .ensures .0)) (p .before .loop .inv .2) (c .before .end-at2 .ensures) (c .fault .ensures)
 
 add-i : tie.Need-add-i Inv-loop μ-loop
 add-i c = let s = before-loop (c .before .before) .before in search needs
