@@ -6,14 +6,13 @@ use Prim.Native.Nat.{ℕ, zero, suc, _+_, _<_}
 use native.Mathlib.Nat.{eq-or-lt-of-le}
 use native.Mathlib.Omega.{arith}
 use lib.IntN.{ℤ, pos, _+ℤ_, _-ℤ_}
-use lib.Signed.{ltZ-yes}
 use lib.ListN.{length}
 use Rattle.integers.specs.Linear.{lin, says}
 use Rattle.integers.specs.Order.{across}
-use Rattle.cubic.specs.Piece.{unit}
 use Rattle.cubic.specs.Value.{risen}
 use Rattle.cubic.specs.InOrder.{risen-at-left, risen-at-right}
-use Rattle.rules.specs.Known.{0<-width}
+use Rattle.rules.specs.Limits.{unit}
+use Rattle.rules.specs.Known.{unit-size, 0<-unit, 0<-width}
 use Rattle.rules.specs.Order.{answer-right}
 use Rattle.table.specs.Table.{Table, entry, step}
 use Rattle.table.specs.Accepted.{Accepted}
@@ -26,8 +25,8 @@ module _ {t : Table} (a : Accepted t) where
   -- at the left end of a piece, and at its right end
   at-left : (i : ℕ) → i + 1 < length (t .knots) → valueOn t i (entry (t .knots) i) ≡ entry (t .values) i
   at-left i l =
-      ap (λ (c : ℤ). entry (t .values) i +ℤ risen unit (step (t .knots) i) (step (t .values) i) (entry (t .slopes) i) (entry (t .slopes) (i + 1)) c) (nothing (entry (t .knots) i))
-      ∙ ap (λ (w : ℤ). entry (t .values) i +ℤ w) (risen-at-left {U = unit} (ltZ-yes tt) (0<-width (a .limits .widths i l)) (step (t .values) i) (entry (t .slopes) i) (entry (t .slopes) (i + 1)))
+      ap (λ (c : ℤ). entry (t .values) i +ℤ risen (unit (t .s)) (step (t .knots) i) (step (t .values) i) (entry (t .slopes) i) (entry (t .slopes) (i + 1)) c) (nothing (entry (t .knots) i))
+      ∙ ap (λ (w : ℤ). entry (t .values) i +ℤ w) (risen-at-left (0<-unit (unit-size (a .unit))) (0<-width (a .limits .widths i l)) (step (t .values) i) (entry (t .slopes) i) (entry (t .slopes) (i + 1)))
       ∙ none (entry (t .values) i)
     where
       nothing : (x : ℤ) → x -ℤ x ≡ pos 0
@@ -38,7 +37,7 @@ module _ {t : Table} (a : Accepted t) where
 
   at-right : (i : ℕ) → i + 1 < length (t .knots) → valueOn t i (entry (t .knots) (i + 1)) ≡ entry (t .values) (i + 1)
   at-right i l =
-      ap (λ (w : ℤ). entry (t .values) i +ℤ w) (risen-at-right {U = unit} (ltZ-yes tt) (0<-width (a .limits .widths i l)) (step (t .values) i) (entry (t .slopes) i) (entry (t .slopes) (i + 1)))
+      ap (λ (w : ℤ). entry (t .values) i +ℤ w) (risen-at-right (0<-unit (unit-size (a .unit))) (0<-width (a .limits .widths i l)) (step (t .values) i) (entry (t .slopes) i) (entry (t .slopes) (i + 1)))
       ∙ across (entry (t .values) i) (entry (t .values) (i + 1))
 
   -- a knot is the left end of the piece that starts there, and the last one the right end of the last

@@ -3,8 +3,8 @@
 use mathlib.Core.Path.{_≡_}
 use Prim.Native.Nat.{ℕ, _+_}
 use lib.IntN.{ℤ, pos, _+ℤ_, _-ℤ_}
-use Rattle.cubic.specs.Piece.{unit}
 use Rattle.cubic.specs.Value.{risen}
+use Rattle.rules.specs.Limits.{unit}
 use Rattle.rules.specs.Refusals.{Given, Answered}
 use Rattle.table.specs.Table.{Table, entry, step}
 use Rattle.position.specs.Position.{Belongs, HoldsAt, evaluationOrder}
@@ -12,7 +12,7 @@ use Rattle.position.specs.Position.{Belongs, HoldsAt, evaluationOrder}
 -- what the cubic of piece i has risen by at the position, rounded to a whole number, "With t = position − left knot"
 abbrev pub risenOn : Table → ℕ → ℤ → ℤ
 risenOn t i x =
-    risen unit (step (t .knots) i) (step (t .values) i) (entry (t .slopes) i) (entry (t .slopes) (i + 1)) (x -ℤ entry (t .knots) i)
+    risen (unit (t .s)) (step (t .knots) i) (step (t .values) i) (entry (t .slopes) i) (entry (t .slopes) (i + 1)) (x -ℤ entry (t .knots) i)
 
 -- "the answer is the left value plus" that
 abbrev pub valueOn : Table → ℕ → ℤ → ℤ
@@ -24,7 +24,7 @@ pub record ValueAt (t : Table) (x v : ℤ) : Type 0 where
   pub belongs : Belongs (t .knots) x piece
   pub is : v ≡ valueOn t piece x
 
--- What `evaluate` answers: the first cause of a refusal in the order 1, 2, 3, 4, 5, 6, its place, and the value 0, which then says nothing; or 0 at
+-- What `evaluate` answers: the first cause of a refusal in the order 12, 1, 2, 3, 4, 5, 6, its place, and the value 0, which then says nothing; or 0 at
 -- place 0, and the value at the position.
 pub record Evaluated (t : Table) (x : ℤ) (number place : ℕ) (v : ℤ) : Type 0 where
   pub refusal : Given (HoldsAt t x) evaluationOrder number place

@@ -12,7 +12,7 @@ use Rattle.drive.specs.Refused.{accepted-for}
 use Rattle.drive.specs.declared.Answer.{Answer}
 use Rattle.drive.specs.declared.Answer.the-variants.{Dwell, Move}
 
-one-told-in : {left h z m n t : ℤ} {a b : Telling} → ToldIn left h z m n t a → ToldIn left h z m n t b → a ≡ b
+one-told-in : {U left h z m n t : ℤ} {a b : Telling} → ToldIn U left h z m n t a → ToldIn U left h z m n t b → a ≡ b
 one-told-in (dwells e x) (dwells f y) = ap dwell (one-float x y)
 one-told-in (dwells e x) (moves g p q r) = absurd (g e)
 one-told-in (moves g p q r) (dwells e x) = absurd (g e)

@@ -7,9 +7,8 @@ use Prim.Native.Nat.{ℕ, _+_}
 use lib.IntN.{ℤ, pos, _-ℤ_}
 use lib.Ieee.{Float, fin, binary64}
 use Rattle.floats.specs.Promise.{Exactly}
-use Rattle.cubic.specs.Piece.{unit}
 use Rattle.cubic.specs.Value.{numerator, denominator}
-use Rattle.rules.specs.Limits.{TooLarge}
+use Rattle.rules.specs.Limits.{unit, TooLarge}
 use Rattle.rules.specs.Refusals.{Given, Answered}
 use Rattle.table.specs.Table.{Table, entry, step}
 use Rattle.position.specs.Position.{Belongs, HoldsAt}
@@ -34,16 +33,16 @@ resting = dwell (fin false 0 (pos 0))
 
 -- "A flat piece answers a dwell that carries its level as a 64-bit float. Any other answers a move: one record of three 64-bit floats, the left value, the
 -- numerator above and 256·h³. All three are exact whole numbers, with the numerator worked out in floats." So at the place t of a piece of width h, rise z and
--- slopes m, n: the numerator is that of the value there, and a flat piece, which is one without a rise that 5 has not refused, has its left value for its level.
+-- slopes m, n in 1/U, where 256 stands for U: the numerator is that of the value there, and a flat piece, which is one without a rise that 5 has not refused, has its left value for its level.
 -- That floats are used on the way is no part of the answer, which they leave exact.
-pub data ToldIn (left h z m n t : ℤ) : Telling → Type 0 where
-  dwells : {x : Float} → z ≡ pos 0 → Exactly binary64 left x → ToldIn left h z m n t (dwell x)
-  moves : {x y w : Float} → (z ≡ pos 0 → ⊥) → Exactly binary64 left x → Exactly binary64 (numerator unit h z m n t) y → Exactly binary64 (denominator unit h) w → ToldIn left h z m n t (move x y w)
+pub data ToldIn (U left h z m n t : ℤ) : Telling → Type 0 where
+  dwells : {x : Float} → z ≡ pos 0 → Exactly binary64 left x → ToldIn U left h z m n t (dwell x)
+  moves : {x y w : Float} → (z ≡ pos 0 → ⊥) → Exactly binary64 left x → Exactly binary64 (numerator U h z m n t) y → Exactly binary64 (denominator U h) w → ToldIn U left h z m n t (move x y w)
 
 -- what is told at the position x, on the piece that it belongs to
 abbrev pub ToldOn : Table → ℕ → ℤ → Telling → Type 0
 ToldOn tab i x =
-    ToldIn (entry (tab .values) i) (step (tab .knots) i) (step (tab .values) i) (entry (tab .slopes) i) (entry (tab .slopes) (i + 1)) (x -ℤ entry (tab .knots) i)
+    ToldIn (unit (tab .s)) (entry (tab .values) i) (step (tab .knots) i) (step (tab .values) i) (entry (tab .slopes) i) (entry (tab .slopes) (i + 1)) (x -ℤ entry (tab .knots) i)
 
 pub record ToldAt (tab : Table) (x : ℤ) (a : Telling) : Type 0 where
   pub piece : ℕ
@@ -55,9 +54,9 @@ pub data HoldsFor (tab : Table) (x : ℤ) : ℕ → ℕ → Type 0 where
   of-position : {c p : ℕ} → HoldsAt tab x c p → HoldsFor tab x c p
   too-large : {i : ℕ} → Belongs (tab .knots) x i → TooLarge (step (tab .knots) i) (step (tab .values) i) → HoldsFor tab x 8 i
 
--- "float answer: 1, 2, 3, 4, 5, 6, 8"
+-- "float answer: 1, 2, 3, 4, 5, 6, 8", and 12 "asked first"
 abbrev pub floatOrder : List ℕ
-floatOrder = 1 ∷ 2 ∷ 3 ∷ 4 ∷ 5 ∷ 6 ∷ 8 ∷ []
+floatOrder = 12 ∷ 1 ∷ 2 ∷ 3 ∷ 4 ∷ 5 ∷ 6 ∷ 8 ∷ []
 
 -- What `float_answer` answers: the first cause of a refusal in this order, its place, and a dwell at level 0, which then says nothing; or 0 at place 0, and
 -- what the drive is told at the position.

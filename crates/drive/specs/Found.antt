@@ -16,10 +16,9 @@ use Rattle.integers.specs.Within.{Within}
 use Rattle.integers.specs.Sizes.{sized, code}
 use Rattle.integers.specs.Decided.{alike-or-not, <ℤ-or-not, ≡ℤ-or-not}
 use Rattle.floats.specs.Exactly.{cast-exactly}
-use Rattle.cubic.specs.Piece.{unit}
 use Rattle.cubic.specs.Value.{numerator, denominator}
 use Rattle.rules.specs.Limits.{TooLarge}
-use Rattle.rules.specs.Known.{known-width}
+use Rattle.rules.specs.Known.{known-unit, known-width}
 use Rattle.rules.specs.Refusals.{Given}
 use Rattle.rules.specs.Order.{front, behind, clear}
 use Rattle.rules.specs.Found.{SomeGiven, found-on, found-as, answered-beside}
@@ -50,16 +49,16 @@ module _ (t : Table) (x : ℤ) where
 
 -- ---- what is told
 
-module _ {left h z m n t : ℤ} (o : InPiece h z m n t) (fits : Within (2 ^ 53) left) (small : TooLarge h z → ⊥) where
-  above-within : Within (2 ^ 53) (numerator unit h z m n t)
+module _ {U left h z m n t : ℤ} (o : InPiece U h z m n t) (fits : Within (2 ^ 53) left) (small : TooLarge h z → ⊥) where
+  above-within : Within (2 ^ 53) (numerator U h z m n t)
   above-within =
-      let c : Coefficients unit h z m n _ _ _ = record { first-is = refl; second-is = refl; third-is = refl } in
+      let c : Coefficients U h z m n _ _ _ = record { first-is = refl; second-is = refl; third-is = refl } in
       subst (Within (2 ^ 53)) (by-coefficients c t) (steps-exact o small c .last)
 
-  below-within : Within (2 ^ 53) (denominator unit h)
-  below-within = sized (known-width h (o .width) ∷ []) (search code depth 30 fits 9000) tt
+  below-within : Within (2 ^ 53) (denominator U h)
+  below-within = sized (known-unit U (o .unit) ∷ known-width h (o .width) ∷ []) (search code depth 30 fits 9000) tt
 
-  told-in : (a : Telling) × ToldIn left h z m n t a
+  told-in : (a : Telling) × ToldIn U left h z m n t a
   told-in =
       ⊎-elim (λ e. (dwell (ofInt binary64 left), dwells e (cast-exactly binary64 left fits)))
       (λ f. (move _ _ _, moves f (cast-exactly binary64 left fits) (cast-exactly binary64 _ above-within) (cast-exactly binary64 _ below-within))) (≡ℤ-or-not z (pos 0))

@@ -4,7 +4,7 @@ use mathlib.Core.List.{[], _∷_}
 use Prim.Native.Nat.{ℕ, _+_}
 use native.Mathlib.Omega.{arith}
 use lib.IntN.{ℤ, _-ℤ_}
-use Rattle.rules.specs.Limits.{TooLarge}
+use Rattle.rules.specs.Limits.{unit, TooLarge}
 use Rattle.rules.specs.Refusals.{Given, done, refused, passed, nothing, answered}
 use Rattle.rules.specs.Order.{Same, one-more-cause, other-way, carried, front, went-on}
 use Rattle.table.specs.Table.{Table, entry, step}
@@ -14,10 +14,10 @@ use Rattle.position.specs.Pieces.{one-piece}
 use Rattle.position.specs.Refused.{accepted-at}
 use Rattle.drive.specs.Drive.{Telling, resting, ToldIn, HoldsFor, of-position, too-large, floatOrder, Driving}
 
--- what is answered in piece i: 8 where it is too large, and else what the drive is told
-pub data AnsweredOn (i : ℕ) (left h z m n t : ℤ) : (number place : ℕ) → Telling → Type 0 where
-  refused-there : TooLarge h z → AnsweredOn i left h z m n t 8 i resting
-  told-there : {a : Telling} → (TooLarge h z → ⊥) → ToldIn left h z m n t a → AnsweredOn i left h z m n t 0 0 a
+-- what is answered in piece i, with slopes in 1/U: 8 where it is too large, and else what the drive is told
+pub data AnsweredOn (U : ℤ) (i : ℕ) (left h z m n t : ℤ) : (number place : ℕ) → Telling → Type 0 where
+  refused-there : TooLarge h z → AnsweredOn U i left h z m n t 8 i resting
+  told-there : {a : Telling} → (TooLarge h z → ⊥) → ToldIn U left h z m n t a → AnsweredOn U i left h z m n t 0 0 a
 
 module _ {t : Table} {x : ℤ} where
   position-alone : (c p : ℕ) → (c ≡ 8 → ⊥) → HoldsFor t x c p → HoldsAt t x c p
@@ -52,7 +52,7 @@ module _ {t : Table} {x : ℤ} where
 
     -- what is answered in its piece is answered at the position, where nothing before it refuses
     pub driving-on : {n p number place : ℕ} {a : Telling} → n ≡ 0 → Given (HoldsAt t x) evaluationOrder n p
-        → AnsweredOn i (entry (t .values) i) (step (t .knots) i) (step (t .values) i) (entry (t .slopes) i) (entry (t .slopes) (i + 1)) (x -ℤ entry (t .knots) i) number place a
+        → AnsweredOn (unit (t .s)) i (entry (t .values) i) (step (t .knots) i) (step (t .values) i) (entry (t .slopes) i) (entry (t .slopes) (i + 1)) (x -ℤ entry (t .knots) i) number place a
         → Driving t x number place a
     driving-on e g (refused-there l) = record { refusal = went-on e (as-evaluated g) (refused-large l); answer = nothing }
     driving-on e g (told-there f o) =

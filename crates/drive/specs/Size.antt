@@ -4,19 +4,19 @@ use mathlib.Core.Bool.{Bool, not}
 use mathlib.Core.Logic.{⊎-elim}
 use Prim.Native.Nat.{_*_, _^_, _≤_}
 use native.Mathlib.Omega.{arith}
-use native.Mathlib.Nat.{le-refl, le-of-eq, le-trans, mul-le-mul}
+use native.Mathlib.Nat.{le-refl, le-trans, mul-le-mul}
 use lib.Dec.{lit≤}
 use lib.IntN.{ℤ, pos, negsuc, negℤ, natAbs, _*ℤ_}
 use lib.Signed.{_<ℤ_}
 use Rattle.integers.specs.Promise.{Between, Decided, holds, fails, magnitude}
 use Rattle.integers.specs.Order.{≤-pos, ≤ℤ-or-<ℤ}
 use Rattle.integers.specs.Decided.{beyond}
-use Rattle.integers.specs.Within.{natAbs-product}
+use Rattle.integers.specs.Within.{natAbs-product, within-product}
 use Rattle.integers.specs.Arguments.{same₄}
-use Rattle.cubic.specs.Piece.{unit}
 use Rattle.cubic.specs.Small.{monotone-small}
 use Rattle.cubic.specs.Horner.{HornerWithin, horner-within}
 use Rattle.rules.specs.Limits.{WidthWithin, TooLarge}
+use Rattle.rules.specs.Known.{unit-within-256}
 use Rattle.piece.specs.Cubic.{Coefficients}
 use Rattle.position.specs.Spot.{InPiece}
 
@@ -42,11 +42,11 @@ cubed : (h z : ℤ) → WidthWithin h → (TooLarge h z → ⊥) → natAbs z * 
 cubed (pos k) z w f = ⊎-elim ≤-pos (λ l. absurd (f (record { above = l }))) (≤ℤ-or-<ℤ (magnitude z *ℤ (pos k *ℤ pos k *ℤ pos k)) (pos (2 ^ 40)))
 cubed (negsuc k) z w f = absurd (w .low .le)
 
-pub steps-exact : {h z m n t first second third : ℤ} → InPiece h z m n t → (TooLarge h z → ⊥) → Coefficients unit h z m n first second third → HornerWithin (2 ^ 53) first second third t h
-steps-exact {h} {z} {m} {n} {t} o f c =
+pub steps-exact : {U h z m n t first second third : ℤ} → InPiece U h z m n t → (TooLarge h z → ⊥) → Coefficients U h z m n first second third → HornerWithin (2 ^ 53) first second third t h
+steps-exact {U} {h} {z} {m} {n} {t} o f c =
     let w = width-size h (o .width) in
     let size = cubed h z (o .width) f in
-    let small = monotone-small {M = 256 * natAbs z} {U = unit} (o .monotone) (record { size = le-of-eq (natAbs-product unit z) }) in
+    let small = monotone-small {M = 256 * natAbs z} (o .monotone) (within-product (unit-within-256 (o .unit)) (record { size = le-refl (natAbs z) })) in
     same₄ (λ (first second third _ : ℤ). HornerWithin (2 ^ 53) first second third t h) {u = t} (sym (c .first-is)) (sym (c .second-is)) (sym (c .third-is)) refl
     (horner-within {H = natAbs h} small (o .place .low) (o .place .high) (record { size = le-refl (natAbs h) }) (w .0) (le-trans (mul-le-mul (w .1) (w .1)) (lit≤ tt))
     (omega (arith, size)))

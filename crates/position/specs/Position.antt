@@ -24,9 +24,9 @@ pub data HoldsAt (t : Table) (x : ℤ) : ℕ → ℕ → Type 0 where
   of-table : {c p : ℕ} → Holds t c p → HoldsAt t x c p
   position-outside : (WithinKnots (t .knots) x → ⊥) → HoldsAt t x 6 0
 
--- "evaluation: 1, 2, 3, 4, 5, 6"
+-- "evaluation: 1, 2, 3, 4, 5, 6", and 12 "asked first"
 abbrev pub evaluationOrder : List ℕ
-evaluationOrder = 1 ∷ 2 ∷ 3 ∷ 4 ∷ 5 ∷ 6 ∷ []
+evaluationOrder = 12 ∷ 1 ∷ 2 ∷ 3 ∷ 4 ∷ 5 ∷ 6 ∷ []
 
 -- What `locate` answers: the first cause of a refusal in this order, its place, and piece 0, which then says nothing; or 0 at place 0, and the position's
 -- piece.

@@ -20,8 +20,11 @@ unit-size {s} w = record { low = pos-≤ (pow-pos s); high = pos-≤ (pow-mono (
 pub 0<-unit : {U : ℤ} → UnitSize U → pos 0 <ℤ U
 0<-unit u = 1≤→0< (u .low)
 
+pub unit-within-256 : {U : ℤ} → UnitSize U → Within 256 U
+unit-within-256 {U} u = within 256 U (≤ℤ-trans (leZ-yes tt) (u .low)) (u .high)
+
 abbrev pub known-unit : (U : ℤ) → UnitSize U → Known
-known-unit U u = known U 256 (within 256 U (≤ℤ-trans (leZ-yes tt) (u .low)) (u .high))
+known-unit U u = known U 256 (unit-within-256 u)
 
 -- a width is above 0, and how large a rise can be
 pub 0<-width : {h : ℤ} → WidthWithin h → pos 0 <ℤ h

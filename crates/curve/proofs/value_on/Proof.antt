@@ -9,7 +9,6 @@ use mir.Facts.{toZ-ofZ}
 use Rattle.integers.specs.Linear.{lin, says}
 use Rattle.integers.specs.Within.{Within}
 use Rattle.integers.specs.Sizes.{Known, known, held, fits, plain-is, code}
-use Rattle.cubic.specs.Piece.{unit}
 use Rattle.cubic.specs.Value.{risen}
 use Rattle.position.specs.Spot.{InPiece}
 use Rattle.position.specs.Held.{Held, held-fields, as-held, of-held}
@@ -17,38 +16,38 @@ use Rattle.curve.specs.OnPiece.{risen-within, value-fits}
 use Rattle.curve.proofs.value_on.Statement.{statement}
 use Rattle.curve.proofs.value_on.Tie as tie
 
--- what the type says of a spot's numbers
-spot : (c : tie.After-struct-told) → let s = c .before .args .s in Held (s .left) (s .h) (s .z) (s .m) (s .n) (s .t)
-spot c = held-fields (c .struct-told .given)
+-- what the types say of the unit and of a spot's numbers
+spot : (c : tie.After-struct-told) → let p = c .before .args .p in Held (c .before .args .unit) (p .left) (p .h) (p .z) (p .m) (p .n) (p .t)
+spot c = held-fields (c .before .fits .unit) (c .struct-told .given)
 
 risen-requires : tie.Need-risen-requires
 risen-requires c κs = let p = c .before .before .before .before in as-held InPiece (spot p) (p .before .pre .0)
 
-has-risen : (c : tie.After-risen) → let s = c .before .before .before .before .before .before .args .s in c .risen .result ≡ risen unit (s .h) (s .z) (s .m) (s .n) (s .t)
-has-risen c = of-held (λ (h z m n t : ℤ). c .risen .result ≡ risen unit h z m n t) (spot (c .before .before .before .before .before)) (c .risen .ensures)
+has-risen : (c : tie.After-risen) → let s = c .before .before .before .before .before .before .args in c .risen .result ≡ risen (s .unit) (s .p .h) (s .p .z) (s .p .m) (s .p .n) (s .p .t)
+has-risen c = of-held (λ (U h z m n t : ℤ). c .risen .result ≡ risen U h z m n t) (spot (c .before .before .before .before .before)) (c .risen .ensures)
 
 -- ---- the sum
 
 abbrev summands : tie.After-risen → List Known
 summands c =
     let p = c .before .before .before .before .before in
-    held w32 (p .before .args .s .left) (spot p .left-fits) ∷ known (c .risen .result) 1048576 (subst (Within 1048576) (sym (has-risen c)) (risen-within (p .before .pre .0))) ∷ []
+    held w32 (p .before .args .p .left) (spot p .left-fits) ∷ known (c .risen .result) 1048576 (subst (Within 1048576) (sym (has-risen c)) (risen-within (p .before .pre .0))) ∷ []
 
-value-fits-32 : (c : tie.After-risen) → let s = c .before .before .before .before .before .before .args .s in SFits w32 (s .left +ℤ risen unit (s .h) (s .z) (s .m) (s .n) (s .t))
+value-fits-32 : (c : tie.After-risen) → let s = c .before .before .before .before .before .before .args in SFits w32 (s .p .left +ℤ risen (s .unit) (s .p .h) (s .p .z) (s .p .m) (s .p .n) (s .p .t))
 value-fits-32 c =
     let p = c .before .before .before .before .before in
     let s = p .before in
-    value-fits (s .pre .0) w32 {right = s .args .s .left +ℤ s .args .s .z} (across (s .args .s .left) (s .args .s .z)) (spot p .left-fits) (s .pre .1)
+    value-fits (s .pre .0) w32 {right = s .args .p .left +ℤ s .args .p .z} (across (s .args .p .left) (s .args .p .z)) (spot p .left-fits) (s .pre .1)
   where
     across : (l z : ℤ) → z ≡ l +ℤ z -ℤ l
     across l z = lin (l ∷ z ∷ []) (search says depth 30 fits 9000) (omega arith)
 
 -- what the code's plain value is
 abbrev sum : tie.After-risen → ℤ
-sum c = c .before .before .before .before .before .before .args .s .left +ℤ c .risen .result
+sum c = c .before .before .before .before .before .before .args .p .left +ℤ c .risen .result
 
-is-value : (c : tie.After-risen) → let s = c .before .before .before .before .before .before .args .s in sum c ≡ s .left +ℤ risen unit (s .h) (s .z) (s .m) (s .n) (s .t)
-is-value c = ap (λ (w : ℤ). c .before .before .before .before .before .before .args .s .left +ℤ w) (has-risen c)
+is-value : (c : tie.After-risen) → let s = c .before .before .before .before .before .before .args in sum c ≡ s .p .left +ℤ risen (s .unit) (s .p .h) (s .p .z) (s .p .m) (s .p .n) (s .p .t)
+is-value c = ap (λ (w : ℤ). c .before .before .before .before .before .before .args .p .left +ℤ w) (has-risen c)
 
 cast-result-2 : tie.Need-cast-result-2
 cast-result-2 c =

@@ -8,14 +8,13 @@ use lib.Ieee.{binary64}
 use mir.Syntax.{w32, w64}
 use mir.Val.{toZ, ofZ}
 use Rattle.integers.specs.Sizes.{Known, known, held, fits, plain-is, code}
-use Rattle.integers.specs.Arguments.{arguments, plainly₄, as-coded₁, as-coded₄}
+use Rattle.integers.specs.Arguments.{arguments, plainly₅, as-coded₁, as-coded₄}
 use Rattle.floats.specs.Promise.{Exactly}
 use Rattle.floats.specs.Cast.{may-cast, cast-is}
-use Rattle.cubic.specs.Piece.{unit}
 use Rattle.cubic.specs.Value.{numerator}
 use Rattle.cubic.specs.Horner.{HornerWithin}
 use Rattle.rules.specs.Limits.{WidthWithin, RiseWithin}
-use Rattle.rules.specs.Known.{known-width, known-rise, known-inside}
+use Rattle.rules.specs.Known.{UnitSize, known-unit, known-width, known-rise, known-inside}
 use Rattle.piece.specs.Cubic.{Coefficients, by-coefficients}
 use Rattle.drive.specs.Size.{steps-exact}
 use Rattle.drive.proofs.moving.Statement.{statement}
@@ -23,7 +22,8 @@ use Rattle.drive.proofs.moving.Tie as tie
 
 abbrev given : tie.Start → List Known
 given s =
-    known-width (s .args .h) (s .pre .0 .width)
+    known-unit (s .args .unit) (s .pre .0 .unit)
+    ∷ known-width (s .args .h) (s .pre .0 .width)
     ∷ known-rise (s .args .z) (s .pre .0 .rise)
     ∷ held w32 (s .args .left) (s .fits .left)
     ∷ held w32 (s .args .m) (s .fits .m)
@@ -33,18 +33,21 @@ given s =
 
 coefficients-requires : tie.Need-coefficients-requires
 coefficients-requires c κs = (
-  as-coded₁ (given c) WidthWithin (search arguments depth 30 fits 9000) tt (c .pre .0 .width),
-  as-coded₁ (given c) RiseWithin (search arguments depth 30 fits 9000) tt (c .pre .0 .rise),
+  as-coded₁ (given c) UnitSize (search arguments depth 30 fits 9000) tt (c .pre .0 .unit),
+  (
+    as-coded₁ (given c) WidthWithin (search arguments depth 30 fits 9000) tt (c .pre .0 .width),
+    as-coded₁ (given c) RiseWithin (search arguments depth 30 fits 9000) tt (c .pre .0 .rise),
+  ),
 )
 
 module _ (c : tie.After-coefficients) where
   abbrev s : tie.Start
   s = c .before
 
-  are : let r = c .coefficients .result in Coefficients unit (s .args .h) (s .args .z) (s .args .m) (s .args .n) (r .first) (r .second) (r .third)
+  are : let r = c .coefficients .result in Coefficients (s .args .unit) (s .args .h) (s .args .z) (s .args .m) (s .args .n) (r .first) (r .second) (r .third)
   are =
       let r = c .coefficients .result in
-      plainly₄ (given s) (λ (h z m n : ℤ). Coefficients unit h z m n (r .first) (r .second) (r .third)) (c .coefficients .ensures) (search arguments depth 30 fits 9000) tt
+      plainly₅ (given s) (λ (U h z m n : ℤ). Coefficients U h z m n (r .first) (r .second) (r .third)) (c .coefficients .ensures) (search code depth 30 fits 9000) (search arguments depth 30 fits 9000) tt
 
   steps : let r = c .coefficients .result in HornerWithin (2 ^ 53) (r .first) (r .second) (r .third) (s .args .t) (s .args .h)
   steps = steps-exact (s .pre .0) (s .pre .1) are
@@ -61,7 +64,7 @@ numerator-requires c κs =
     (as-coded₁ (given (p .before)) (HornerWithin (2 ^ 53) (r .first) (r .second) (r .third) (p .before .args .t)) (search arguments depth 30 fits 9000) tt (steps p))
 
 -- the numerator, said of the piece itself
-is-cubic : (c : tie.After-numerator) → let s = c .before .before .before .before .before .args in Exactly binary64 (numerator unit (s .h) (s .z) (s .m) (s .n) (s .t)) (c .numerator .result)
+is-cubic : (c : tie.After-numerator) → let s = c .before .before .before .before .before .args in Exactly binary64 (numerator (s .unit) (s .h) (s .z) (s .m) (s .n) (s .t)) (c .numerator .result)
 is-cubic c =
     let p = c .before .before .before .before in
     subst (λ (v : ℤ). Exactly binary64 v (c .numerator .result)) (plain-is {Γ = with-cubic p} (search code depth 30 fits 9000) tt ∙ by-coefficients (are p) (p .before .args .t)) (c .numerator .ensures)

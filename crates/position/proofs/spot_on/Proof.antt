@@ -1,4 +1,4 @@
--- `position::spot_on` meets its contract: an accepted table's lists have both ends of the position's piece.
+-- `position::spot_on` meets its contract: the lists have both ends of the position's piece.
 use mathlib.Core.Path.{_≡_, sym, _∙_, ap₂, subst}
 use mathlib.Core.List.{[], _∷_}
 use Prim.Native.Nat.{_+_, _<_}
@@ -19,13 +19,13 @@ use Rattle.position.proofs.spot_on.Tie as tie
 -- ---- the piece is in the lists
 
 in-knots : (s : tie.Start) → s .args .i + 1 < length (s .args .knots .now)
-in-knots s = within-list (s .pre .1)
+in-knots s = within-list (s .pre .1 .1)
 
 in-values : (s : tie.Start) → s .args .i + 1 < length (s .args .values .now)
-in-values s = omega (arith, in-knots s, s .pre .0 .limits .lengths)
+in-values s = omega (arith, in-knots s, s .pre .0 .lengths)
 
 in-slopes : (s : tie.Start) → s .args .i + 1 < length (s .args .slopes .now)
-in-slopes s = omega (arith, in-knots s, s .pre .0 .slopes)
+in-slopes s = omega (arith, in-knots s, s .pre .1 .0)
 
 mul-left : tie.Need-mul-left
 mul-left c = let l = in-values c in search needs
@@ -112,7 +112,7 @@ returns c =
     let left-is = toZ-ofZ (left at-left) in
     let z-is = rise at-rise in
     record {
-      belongs = at-left .before .pre .1;
+      belongs = at-left .before .pre .1 .1;
       left-is = left-is;
       h-is = width (at-rise .before .before);
       z-is = z-is;

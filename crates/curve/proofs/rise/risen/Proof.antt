@@ -8,13 +8,12 @@ use Rattle.integers.specs.Promise.{Between, Rounded, nearestOf}
 use Rattle.integers.specs.Within.{Within}
 use Rattle.integers.specs.Nearest.{rounded-is, one-rounded}
 use Rattle.integers.specs.Sizes.{Known, known, held, fits, sized, plain-is, code, returned}
-use Rattle.integers.specs.Arguments.{arguments, plainly₂, plainly₄, as-coded₁, as-coded₂, as-coded₃}
-use Rattle.cubic.specs.Piece.{unit}
+use Rattle.integers.specs.Arguments.{arguments, plainly₂, plainly₅, as-coded₁, as-coded₂, as-coded₃}
 use Rattle.cubic.specs.Value.{numerator, denominator}
 use Rattle.cubic.specs.InOrder.{the-cubic-is-within}
 use Rattle.cubic.specs.Small.{monotone-small}
 use Rattle.rules.specs.Limits.{WidthWithin, RiseWithin}
-use Rattle.rules.specs.Known.{known-width, known-rise, known-inside}
+use Rattle.rules.specs.Known.{UnitSize, known-unit, known-width, known-rise, known-inside}
 use Rattle.piece.specs.Cubic.{Coefficients, by-coefficients}
 use Rattle.curve.specs.Sizes.{Small}
 use Rattle.curve.proofs.rise.risen.Statement.{statement}
@@ -22,7 +21,8 @@ use Rattle.curve.proofs.rise.risen.Tie as tie
 
 abbrev given : tie.Start → List Known
 given s =
-    known-width (s .args .h) (s .pre .width)
+    known-unit (s .args .unit) (s .pre .unit)
+    ∷ known-width (s .args .h) (s .pre .width)
     ∷ known-rise (s .args .z) (s .pre .rise)
     ∷ held w32 (s .args .m) (s .fits .m)
     ∷ held w32 (s .args .n) (s .fits .n)
@@ -31,8 +31,11 @@ given s =
 
 coefficients-requires : tie.Need-coefficients-requires
 coefficients-requires c κs = (
-  as-coded₁ (given c) WidthWithin (search arguments depth 30 fits 9000) tt (c .pre .width),
-  as-coded₁ (given c) RiseWithin (search arguments depth 30 fits 9000) tt (c .pre .rise),
+  as-coded₁ (given c) UnitSize (search arguments depth 30 fits 9000) tt (c .pre .unit),
+  (
+    as-coded₁ (given c) WidthWithin (search arguments depth 30 fits 9000) tt (c .pre .width),
+    as-coded₁ (given c) RiseWithin (search arguments depth 30 fits 9000) tt (c .pre .rise),
+  ),
 )
 
 -- ---- the coefficients
@@ -41,14 +44,14 @@ module _ (c : tie.After-coefficients) where
   abbrev s : tie.Start
   s = c .before
 
-  are : let r = c .coefficients .result in Coefficients unit (s .args .h) (s .args .z) (s .args .m) (s .args .n) (r .first) (r .second) (r .third)
+  are : let r = c .coefficients .result in Coefficients (s .args .unit) (s .args .h) (s .args .z) (s .args .m) (s .args .n) (r .first) (r .second) (r .third)
   are =
       let r = c .coefficients .result in
-      plainly₄ (given s) (λ (h z m n : ℤ). Coefficients unit h z m n (r .first) (r .second) (r .third)) (c .coefficients .ensures) (search arguments depth 30 fits 9000) tt
+      plainly₅ (given s) (λ (U h z m n : ℤ). Coefficients U h z m n (r .first) (r .second) (r .third)) (c .coefficients .ensures) (search code depth 30 fits 9000) (search arguments depth 30 fits 9000) tt
 
   small : let r = c .coefficients .result in Small (r .first) (r .second) (r .third)
   small =
-      let k = monotone-small {M = 268435456} {U = unit} (s .pre .monotone) (sized (known-rise (s .args .z) (s .pre .rise) ∷ []) (search code depth 30 fits 9000) tt) in
+      let k = monotone-small {M = 268435456} (s .pre .monotone) (sized (given s) (search code depth 30 fits 9000) tt) in
       record {
         one = subst (Within _) (sym (are .first-is)) (k .start);
         two = subst (Within _) (sym (are .second-is)) (k .second);
@@ -72,7 +75,7 @@ numerator-requires c κs =
 
 -- ---- the numerator
 
-is-cubic : (c : tie.After-numerator) → let s = c .before .before .before .before .before .args in c .numerator .result ≡ numerator unit (s .h) (s .z) (s .m) (s .n) (s .t)
+is-cubic : (c : tie.After-numerator) → let s = c .before .before .before .before .before .args in c .numerator .result ≡ numerator (s .unit) (s .h) (s .z) (s .m) (s .n) (s .t)
 is-cubic c =
     let p = c .before .before .before .before in
     c .numerator .ensures ∙ plain-is {Γ = with-cubic p} (search code depth 30 fits 9000) tt ∙ by-coefficients (are p) (p .before .args .t)
@@ -100,7 +103,7 @@ nearest-div-requires c κs = search needs
 
 -- what was divided by what
 quotient : (c : tie.After-nearest-div)
-    → let s = c .before .before .before .before .before .before .args in Rounded (c .before .numerator .result) (denominator unit (s .h)) (c .nearest-div .result)
+    → let s = c .before .before .before .before .before .before .args in Rounded (c .before .numerator .result) (denominator (s .unit) (s .h)) (c .nearest-div .result)
 quotient c =
     let s = c .before .before .before .before .before .before in
     plainly₂ (known (c .before .numerator .result) _ (cubic-within (c .before)) ∷ given s) (λ (n d : ℤ). Rounded n d (c .nearest-div .result)) (c .nearest-div .ensures) (search arguments depth 30 fits 9000) tt
@@ -108,7 +111,7 @@ quotient c =
 returns : tie.Need-returns
 returns c =
     let s = c .before .before .before .before .before .before .args in
-    returned w64 (c .nearest-div .ok) (one-rounded (quotient c) (rounded-is _ _) ∙ ap (λ (v : ℤ). nearestOf v (denominator unit (s .h))) (is-cubic (c .before)))
+    returned w64 (c .nearest-div .ok) (one-rounded (quotient c) (rounded-is _ _) ∙ ap (λ (v : ℤ). nearestOf v (denominator (s .unit) (s .h))) (is-cubic (c .before)))
 
 pub risen-spec : {M : Type 1} → statement M
 risen-spec =
