@@ -7,6 +7,7 @@ use Prim.Native.Nat.{ℕ, _+_}
 use lib.Dec.{eqb}
 use lib.IntN.{ℤ}
 use lib.ListN.{length}
+use Rattle.rules.specs.Limits.{unit}
 use Rattle.rules.specs.Refusals.{Given, afterwards}
 use Rattle.table.specs.declared.changed.Change.{Change}
 use Rattle.table.specs.Table.{Table, entry}
@@ -31,14 +32,15 @@ isRenewed n k i = eqb (i + 1) k || (eqb i k || (eqb i (k + 1) || (eqb k 2 && eqb
 abbrev pub renewed : (k : ℕ) → (ℕ → ℤ) → List ℤ → List ℤ
 renewed k f list = tab (length list) (λ i. cond (isRenewed (length list) k i) (f i) (entry list i))
 
--- "[they] are those a build of the new points gives them": the same definition of the slope at a point as a build has
+-- "[they] are those a build of the new points gives them", in the table's unit: the same definition of the slope at a point as a build has
 abbrev pub renewedSlopes : Change → Table → List ℤ
-renewedSlopes c t = renewed (c .point) (builtSlope (changedBy c t .knots) (changedBy c t .values)) (t .slopes)
+renewedSlopes c t = renewed (c .point) (builtSlope (unit (t .s)) (changedBy c t .knots) (changedBy c t .values)) (t .slopes)
 
--- What `point` answers and leaves, where `before` is the table at the call and `after` the table when it returns: the first cause of a refusal in the order 1, 2, 7, 3, 4,
--- its first place, and the three lists as they were; or 0 at place 0, "the point holds them", the new knot and the new value, and these slopes are renewed.
+-- What `point` answers and leaves, where `before` is the table at the call and `after` the table when it returns: the first cause of a refusal in the order 12, 1, 2, 7, 3, 4,
+-- its first place, and the three lists as they were; or 0 at place 0, "the point holds them", the new knot and the new value, and these slopes are renewed. The slope unit stays.
 pub record Changed (c : Change) (before after : Table) (number place : ℕ) : Type 0 where
   pub refusal : Given (HoldsAfter c before) changeOrder number place
+  pub unit-kept : after .s ≡ before .s
   pub knots : after .knots ≡ afterwards number (before .knots) (changedBy c before .knots)
   pub values : after .values ≡ afterwards number (before .values) (changedBy c before .values)
   pub slopes : after .slopes ≡ afterwards number (before .slopes) (renewedSlopes c before)

@@ -15,12 +15,12 @@ one-change {c} {t} f g =
     let e = one-given (f .refusal) (g .refusal) in (
       e .0,
       e .1,
-      same-lists (f .knots ∙ same (e .0) (t .knots) (changedBy c t .knots) ∙ sym (g .knots)) (f .values ∙ same (e .0) (t .values) (changedBy c t .values) ∙ sym (g .values))
+      same-tables (f .unit-kept ∙ sym (g .unit-kept)) (f .knots ∙ same (e .0) (t .knots) (changedBy c t .knots) ∙ sym (g .knots)) (f .values ∙ same (e .0) (t .values) (changedBy c t .values) ∙ sym (g .values))
           (f .slopes ∙ same (e .0) (t .slopes) (renewedSlopes c t) ∙ sym (g .slopes)),
     )
   where
     same : {m n : ℕ} → m ≡ n → (old new : List ℤ) → afterwards m old new ≡ afterwards n old new
     same e old new = ap (λ (n : ℕ). afterwards n old new) e
 
-    same-lists : {ks ls vs ws ss ts : List ℤ} → ks ≡ ls → vs ≡ ws → ss ≡ ts → table ks vs ss ≡ table ls ws ts
-    same-lists {ls = ls} {ws = ws} {ss = ss} a b c = ap₂ (λ (ks vs : List ℤ). table ks vs ss) a b ∙ ap (table ls ws) c
+    same-tables : {s t : ℕ} {ks ls vs ws ss ts : List ℤ} → s ≡ t → ks ≡ ls → vs ≡ ws → ss ≡ ts → table s ks vs ss ≡ table t ls ws ts
+    same-tables {t = t} {ks} {ls} {vs} {ws} {ss} u a b c = ap (λ (s : ℕ). table s ks vs ss) u ∙ ap₂ (λ (ks vs : List ℤ). table t ks vs ss) a b ∙ ap (table t ls ws) c

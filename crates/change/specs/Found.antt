@@ -19,9 +19,9 @@ every-change-leaves-a-table c t =
     let g = every-change-has-an-answer c t in
     record {
       after =
-          table (afterwards (g .number) (t .knots) (changedBy c t .knots)) (afterwards (g .number) (t .values) (changedBy c t .values))
+          table (t .s) (afterwards (g .number) (t .knots) (changedBy c t .knots)) (afterwards (g .number) (t .values) (changedBy c t .values))
           (afterwards (g .number) (t .slopes) (renewedSlopes c t));
       number = g .number;
       place = g .place;
-      changed = record { refusal = g .given; knots = refl; values = refl; slopes = refl };
+      changed = record { refusal = g .given; unit-kept = refl; knots = refl; values = refl; slopes = refl };
     }

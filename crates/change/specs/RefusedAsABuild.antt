@@ -14,28 +14,29 @@ use Rattle.table.specs.AfterChange.{beside-7, as-a-build, refused-nowhere, poin
 use Rattle.slopes.specs.Slopes.{Built}
 use Rattle.change.specs.Change.{Changed}
 
--- What a change of a point that isn't there answers, where a build of the points answers m at q: the lists' lengths and the number of points are asked before it,
+-- What a change of a point that isn't there answers, where a build of the points answers m at q: the unit, the lists' lengths and the number of points are asked before it,
 -- and the widths and rises after it.
 pub data Nowhere (m q : ℕ) : (number place : ℕ) → Type 0 where
-  by-the-lists : (m ≡ 1) ⊎ (m ≡ 2) → Nowhere m q m q
-  by-7 : (m ≡ 1 → ⊥) → (m ≡ 2 → ⊥) → Nowhere m q 7 0
+  by-the-outline : (m ≡ 12) ⊎ ((m ≡ 1) ⊎ (m ≡ 2)) → Nowhere m q m q
+  by-7 : (m ≡ 12 → ⊥) → (m ≡ 1 → ⊥) → (m ≡ 2 → ⊥) → Nowhere m q 7 0
 
 answered : {H : ℕ → ℕ → Type 0} {order : List ℕ} {number place m q n p : ℕ} → Given H order number place → Given H order n p → Nowhere m q number place → Nowhere m q n p
 answered {m = m} {q = q} g h is = let e = one-given g h in subst₂ (Nowhere m q) (e .0) (e .1) is
 
-later : {H : ℕ → ℕ → Type 0} {m q : ℕ} → Given H (3 ∷ 4 ∷ []) m q → (m ≡ 1 → ⊥) × (m ≡ 2 → ⊥)
-later (refused h e) = (λ e. omega arith, λ e. omega arith)
-later (passed f (refused h e)) = (λ e. omega arith, λ e. omega arith)
-later (passed f (passed g done)) = (λ e. omega arith, λ e. omega arith)
+later : {H : ℕ → ℕ → Type 0} {m q : ℕ} → Given H (3 ∷ 4 ∷ []) m q → (m ≡ 12 → ⊥) × (m ≡ 1 → ⊥) × (m ≡ 2 → ⊥)
+later (refused h e) = (λ e. omega arith, λ e. omega arith, λ e. omega arith)
+later (passed f (refused h e)) = (λ e. omega arith, λ e. omega arith, λ e. omega arith)
+later (passed f (passed g done)) = (λ e. omega arith, λ e. omega arith, λ e. omega arith)
 
 nowhere : {c : Change} {t : Table} {m q n p : ℕ} → pointCount t ≤ c .point → Given (HoldsAfter c t) buildOrder m q → Given (HoldsAfter c t) changeOrder n p → Nowhere m q n p
-nowhere l (refused h e) g = answered (refused h e) g (by-the-lists (inl refl))
-nowhere l (passed f (refused h e)) g = answered (passed f (refused h e)) g (by-the-lists (inr refl))
-nowhere {c} {t} l (passed f (passed g more)) h =
-    answered (passed f (passed g (stopped (3 ∷ 4 ∷ []) (λ e. omega arith) (refused-nowhere c t l)))) h (by-7 (later more .0) (later more .1))
+nowhere l (refused h e) g = answered (refused h e) g (by-the-outline (inl refl))
+nowhere l (passed f (refused h e)) g = answered (passed f (refused h e)) g (by-the-outline (inr (inl refl)))
+nowhere l (passed f (passed k (refused h e))) g = answered (passed f (passed k (refused h e))) g (by-the-outline (inr (inr refl)))
+nowhere {c} {t} l (passed f (passed k (passed g more))) h =
+    answered (passed f (passed k (passed g (stopped (3 ∷ 4 ∷ []) (λ e. omega arith) (refused-nowhere c t l))))) h (by-7 (later more .0) (later more .1) (later more .2))
 
 -- the change c of the table t answers n at p, and a fresh build of the changed points, over the same slope list, answers m at q
-module _ {c : Change} {t u : Table} {after : List ℤ} {n p m q : ℕ} (change : Changed c t u n p) (build : Built (changedBy c t .knots) (changedBy c t .values) (t .slopes) after m q) where
+module _ {c : Change} {t u : Table} {after : List ℤ} {n p m q : ℕ} (change : Changed c t u n p) (build : Built (changedBy c t) after m q) where
   -- where the point is there, both answer the same
   pub refused-as-a-build-is : c .point < pointCount t → (n ≡ m) × (p ≡ q)
   refused-as-a-build-is l = one-given (as-a-build c t l (change .refusal)) (build .refusal)

@@ -9,6 +9,7 @@ use lib.IntN.{ℤ, pos}
 use lib.ListN.{length}
 use lib.Seq.{getD-set-same, getD-set-other}
 use Rattle.integers.specs.Decided.{chosen, passed-over}
+use Rattle.rules.specs.Limits.{unit}
 use Rattle.table.specs.declared.changed.Change.{Change}
 use Rattle.table.specs.Table.{Table, entry, pointCount}
 use Rattle.table.specs.WouldBe.{changedBy}
@@ -38,17 +39,18 @@ module _ {c : Change} {t u : Table} {place : ℕ} (change : Changed c t u 0 plac
   no-other-value-changes i f = ap (λ (list : List ℤ). entry list i) (change .values) ∙ getD-set-other (t .values) (c .point) i (c .value) (pos 0) f
 
   -- slope i, as the definition has it
-  slope-at : (i : ℕ) → i < pointCount t → entry (u .slopes) i ≡ cond (isRenewed (pointCount t) (c .point) i) (builtSlope (changedBy c t .knots) (changedBy c t .values) i) (entry (t .slopes) i)
+  slope-at : (i : ℕ) → i < pointCount t → entry (u .slopes) i ≡ cond (isRenewed (pointCount t) (c .point) i) (builtSlope (unit (t .s)) (changedBy c t .knots) (changedBy c t .values) i) (entry (t .slopes) i)
   slope-at i l =
       ap (λ (list : List ℤ). entry list i) (change .slopes)
-      ∙ tab-entry (length (t .slopes)) (λ i. cond (isRenewed (length (t .slopes)) (c .point) i) (builtSlope (changedBy c t .knots) (changedBy c t .values) i) (entry (t .slopes) i)) i (omega (arith, l, equally-long c t refl (change .refusal) .slopes))
-      ∙ ap (λ (n : ℕ). cond (isRenewed n (c .point) i) (builtSlope (changedBy c t .knots) (changedBy c t .values) i) (entry (t .slopes) i)) (equally-long c t refl (change .refusal) .slopes)
+      ∙ tab-entry (length (t .slopes)) (λ i. cond (isRenewed (length (t .slopes)) (c .point) i) (builtSlope (unit (t .s)) (changedBy c t .knots) (changedBy c t .values) i) (entry (t .slopes) i)) i (omega (arith, l, equally-long c t refl (change .refusal) .slopes))
+      ∙ ap (λ (n : ℕ). cond (isRenewed n (c .point) i) (builtSlope (unit (t .s)) (changedBy c t .knots) (changedBy c t .values) i) (entry (t .slopes) i)) (equally-long c t refl (change .refusal) .slopes)
 
-  pub the-slopes-it-renews-are-as-built : (i : ℕ) → i < pointCount t → Renews (pointCount t) (c .point) i → entry (u .slopes) i ≡ builtSlope (u .knots) (u .values) i
+  pub the-slopes-it-renews-are-as-built : (i : ℕ) → i < pointCount t → Renews (pointCount t) (c .point) i → entry (u .slopes) i ≡ builtSlope (unit (u .s)) (u .knots) (u .values) i
   the-slopes-it-renews-are-as-built i l r =
       slope-at i l
       ∙ sym (chosen (entry (t .slopes) i) (is-renewed (pointCount t) (c .point) i) r)
-      ∙ ap₂ (λ (ks vs : List ℤ). builtSlope ks vs i) (sym (change .knots)) (sym (change .values))
+      ∙ ap₂ (λ (ks vs : List ℤ). builtSlope (unit (t .s)) ks vs i) (sym (change .knots)) (sym (change .values))
+      ∙ ap (λ (s : ℕ). builtSlope (unit s) (u .knots) (u .values) i) (sym (change .unit-kept))
 
   pub no-other-slope-changes : (i : ℕ) → i < pointCount t → (Renews (pointCount t) (c .point) i → ⊥) → entry (u .slopes) i ≡ entry (t .slopes) i
   no-other-slope-changes i l far = slope-at i l ∙ sym (passed-over _ (is-renewed (pointCount t) (c .point) i) far)

@@ -1,10 +1,12 @@
 -- The limits as sizes of values, for proofs about code.
 use Prim.Native.Nat.{ℕ}
+use mathlib.Core.List.{[], _∷_}
 use lib.Pow.{pow-pos, pow-mono}
-use lib.IntN.{ℤ, pos}
-use lib.Signed.{_<ℤ_, leZ-yes}
+use lib.IntN.{ℤ, pos, _-ℤ_, _*ℤ_}
+use lib.Signed.{_≤ℤ_, _<ℤ_, leZ-yes}
 use Rattle.integers.specs.Promise.{Between}
-use Rattle.integers.specs.Order.{≤ℤ-trans, 1≤→0<, pos-≤}
+use Rattle.integers.specs.Ring.{ring, quote}
+use Rattle.integers.specs.Order.{≤ℤ-trans, 1≤→0<, 0≤-gap, 0≤-product, pos-≤, at-most}
 use Rattle.integers.specs.Within.{Within, within}
 use Rattle.integers.specs.Sizes.{Known, known}
 use Rattle.rules.specs.Limits.{unit, UnitWithin, WidthWithin, RiseWithin}
@@ -15,6 +17,10 @@ UnitSize U = Between (pos 1) U (pos 256)
 
 pub unit-size : {s : ℕ} → UnitWithin s → UnitSize (unit s)
 unit-size {s} w = record { low = pos-≤ (pow-pos s); high = pos-≤ (pow-mono (w .high)) }
+
+-- so many 256ths are no fewer, of what is not below 0
+pub in-256ths : {U x : ℤ} → UnitSize U → pos 0 ≤ℤ x → (U *ℤ x) ≤ℤ (pos 256 *ℤ x)
+in-256ths {U} {x} u x₀ = at-most ((pos 256 -ℤ U) *ℤ x) (ring (U ∷ x ∷ []) (search quote depth 30 fits 9000) tt) (0≤-product (0≤-gap (u .high)) x₀)
 
 -- it is above 0
 pub 0<-unit : {U : ℤ} → UnitSize U → pos 0 <ℤ U

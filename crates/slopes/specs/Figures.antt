@@ -3,71 +3,73 @@ use mathlib.Core.Path.{_≡_, refl}
 use mathlib.Core.List.{[], _∷_}
 use native.Mathlib.Omega.{arith}
 use lib.IntN.{ℤ, pos, negsuc}
+use Rattle.rules.specs.Limits.{unit}
 use Rattle.rules.specs.Refusals.{Given, refused, passed}
 use Rattle.table.specs.Table.{table, Holds, width-outside, buildOrder}
-use Rattle.table.specs.Accepted.{same-length-passes, count-passes}
+use Rattle.table.specs.Accepted.{unit-passes, same-length-passes, count-passes}
 use Rattle.slopes.specs.Slopes.{builtSlopes}
 
 -- "points (0,0), (1,1), (2,4), (3,7) have 0, 384, 768, 768", as request 2 of document 02 has it, and with point 0 at (0,−2), as document 01 has it, "768, 768, 768, 768". The three
 -- lists that are marked P stand in `Sixteen.antt` of `demands`.
-pub four-slopes : builtSlopes (pos 0 ∷ pos 1 ∷ pos 2 ∷ pos 3 ∷ []) (pos 0 ∷ pos 1 ∷ pos 4 ∷ pos 7 ∷ []) ≡ pos 0 ∷ pos 384 ∷ pos 768 ∷ pos 768 ∷ []
+pub four-slopes : builtSlopes (unit 8) (pos 0 ∷ pos 1 ∷ pos 2 ∷ pos 3 ∷ []) (pos 0 ∷ pos 1 ∷ pos 4 ∷ pos 7 ∷ []) ≡ pos 0 ∷ pos 384 ∷ pos 768 ∷ pos 768 ∷ []
 four-slopes = refl
 
-pub four-slopes-lowered : builtSlopes (pos 0 ∷ pos 1 ∷ pos 2 ∷ pos 3 ∷ []) (negsuc 1 ∷ pos 1 ∷ pos 4 ∷ pos 7 ∷ []) ≡ pos 768 ∷ pos 768 ∷ pos 768 ∷ pos 768 ∷ []
+pub four-slopes-lowered : builtSlopes (unit 8) (pos 0 ∷ pos 1 ∷ pos 2 ∷ pos 3 ∷ []) (negsuc 1 ∷ pos 1 ∷ pos 4 ∷ pos 7 ∷ []) ≡ pos 768 ∷ pos 768 ∷ pos 768 ∷ pos 768 ∷ []
 four-slopes-lowered = refl
 
 -- ---- the borders of the end rule
 
 -- opposite signs, and the quotient is below the bound, or the bound itself, or beyond it, where 896 would bend
-pub below-the-bound : builtSlopes (pos 0 ∷ pos 1 ∷ pos 2 ∷ []) (pos 0 ∷ pos 1 ∷ negsuc 0 ∷ []) ≡ pos 640 ∷ pos 0 ∷ negsuc 895 ∷ []
+pub below-the-bound : builtSlopes (unit 8) (pos 0 ∷ pos 1 ∷ pos 2 ∷ []) (pos 0 ∷ pos 1 ∷ negsuc 0 ∷ []) ≡ pos 640 ∷ pos 0 ∷ negsuc 895 ∷ []
 below-the-bound = refl
 
-pub the-bound-itself : builtSlopes (pos 0 ∷ pos 1 ∷ pos 2 ∷ []) (pos 0 ∷ pos 1 ∷ negsuc 1 ∷ []) ≡ pos 768 ∷ pos 0 ∷ negsuc 1279 ∷ []
+pub the-bound-itself : builtSlopes (unit 8) (pos 0 ∷ pos 1 ∷ pos 2 ∷ []) (pos 0 ∷ pos 1 ∷ negsuc 1 ∷ []) ≡ pos 768 ∷ pos 0 ∷ negsuc 1279 ∷ []
 the-bound-itself = refl
 
-pub beyond-the-bound : builtSlopes (pos 0 ∷ pos 1 ∷ pos 2 ∷ []) (pos 0 ∷ pos 1 ∷ negsuc 2 ∷ []) ≡ pos 768 ∷ pos 0 ∷ negsuc 1663 ∷ []
+pub beyond-the-bound : builtSlopes (unit 8) (pos 0 ∷ pos 1 ∷ pos 2 ∷ []) (pos 0 ∷ pos 1 ∷ negsuc 2 ∷ []) ≡ pos 768 ∷ pos 0 ∷ negsuc 1663 ∷ []
 beyond-the-bound = refl
 
 -- no rise at the left end, and beside the right one, which then has 3/2 of the secant
-pub no-rise : builtSlopes (pos 0 ∷ pos 1 ∷ pos 2 ∷ []) (pos 0 ∷ pos 0 ∷ pos 1 ∷ []) ≡ pos 0 ∷ pos 0 ∷ pos 384 ∷ []
+pub no-rise : builtSlopes (unit 8) (pos 0 ∷ pos 1 ∷ pos 2 ∷ []) (pos 0 ∷ pos 0 ∷ pos 1 ∷ []) ≡ pos 0 ∷ pos 0 ∷ pos 384 ∷ []
 no-rise = refl
 
 -- the quotient opposes the rise
-pub opposed : builtSlopes (pos 0 ∷ pos 1 ∷ pos 2 ∷ []) (pos 0 ∷ pos 1 ∷ pos 5 ∷ []) ≡ pos 0 ∷ pos 409 ∷ pos 1408 ∷ []
+pub opposed : builtSlopes (unit 8) (pos 0 ∷ pos 1 ∷ pos 2 ∷ []) (pos 0 ∷ pos 1 ∷ pos 5 ∷ []) ≡ pos 0 ∷ pos 409 ∷ pos 1408 ∷ []
 opposed = refl
 
 -- toward zero, where it falls
-pub falls : builtSlopes (pos 0 ∷ pos 1 ∷ pos 3 ∷ []) (pos 0 ∷ negsuc 0 ∷ negsuc 1 ∷ []) ≡ negsuc 297 ∷ negsuc 176 ∷ negsuc 41 ∷ []
+pub falls : builtSlopes (unit 8) (pos 0 ∷ pos 1 ∷ pos 3 ∷ []) (pos 0 ∷ negsuc 0 ∷ negsuc 1 ∷ []) ≡ negsuc 297 ∷ negsuc 176 ∷ negsuc 41 ∷ []
 falls = refl
 
 -- the bound is 768/3, and not three times 85; and 768/2
-pub bound-of-a-third : builtSlopes (pos 0 ∷ pos 3 ∷ pos 4 ∷ []) (pos 0 ∷ pos 1 ∷ negsuc 8 ∷ []) ≡ pos 256 ∷ pos 0 ∷ negsuc 3220 ∷ []
+pub bound-of-a-third : builtSlopes (unit 8) (pos 0 ∷ pos 3 ∷ pos 4 ∷ []) (pos 0 ∷ pos 1 ∷ negsuc 8 ∷ []) ≡ pos 256 ∷ pos 0 ∷ negsuc 3220 ∷ []
 bound-of-a-third = refl
 
-pub bound-of-a-half : builtSlopes (pos 0 ∷ pos 2 ∷ pos 3 ∷ []) (pos 0 ∷ pos 1 ∷ negsuc 8 ∷ []) ≡ pos 384 ∷ pos 0 ∷ negsuc 3455 ∷ []
+pub bound-of-a-half : builtSlopes (unit 8) (pos 0 ∷ pos 2 ∷ pos 3 ∷ []) (pos 0 ∷ pos 1 ∷ negsuc 8 ∷ []) ≡ pos 384 ∷ pos 0 ∷ negsuc 3455 ∷ []
 bound-of-a-half = refl
 
 -- a quarter of a unit
-pub less-than-a-unit : builtSlopes (pos 0 ∷ pos 1024 ∷ pos 2048 ∷ []) (pos 0 ∷ pos 1 ∷ pos 2 ∷ []) ≡ pos 0 ∷ pos 0 ∷ pos 0 ∷ []
+pub less-than-a-unit : builtSlopes (unit 8) (pos 0 ∷ pos 1024 ∷ pos 2048 ∷ []) (pos 0 ∷ pos 1 ∷ pos 2 ∷ []) ≡ pos 0 ∷ pos 0 ∷ pos 0 ∷ []
 less-than-a-unit = refl
 
 -- the largest slope that an end can have, 2^29
-pub the-largest : builtSlopes (pos 0 ∷ pos 1 ∷ pos 2 ∷ []) (pos 0 ∷ pos 1048576 ∷ pos 0 ∷ []) ≡ pos 536870912 ∷ pos 0 ∷ negsuc 536870911 ∷ []
+pub the-largest : builtSlopes (unit 8) (pos 0 ∷ pos 1 ∷ pos 2 ∷ []) (pos 0 ∷ pos 1048576 ∷ pos 0 ∷ []) ≡ pos 536870912 ∷ pos 0 ∷ negsuc 536870911 ∷ []
 the-largest = refl
 
 -- with a neighbour that falls by 2^20 at these widths, the largest rise that is held to the bound
-pub the-last-that-is-bounded : builtSlopes (pos 0 ∷ pos 1 ∷ pos 2 ∷ []) (pos 0 ∷ pos 349525 ∷ negsuc 699050 ∷ []) ≡ pos 268435200 ∷ pos 0 ∷ negsuc 447392383 ∷ []
+pub the-last-that-is-bounded : builtSlopes (unit 8) (pos 0 ∷ pos 1 ∷ pos 2 ∷ []) (pos 0 ∷ pos 349525 ∷ negsuc 699050 ∷ []) ≡ pos 268435200 ∷ pos 0 ∷ negsuc 447392383 ∷ []
 the-last-that-is-bounded = refl
 
 -- both ends of four points
-pub both-ends-of-four : builtSlopes (pos 0 ∷ pos 1 ∷ pos 2 ∷ pos 3 ∷ []) (pos 0 ∷ pos 1 ∷ pos 4 ∷ pos 3 ∷ []) ≡ pos 0 ∷ pos 384 ∷ pos 0 ∷ negsuc 767 ∷ []
+pub both-ends-of-four : builtSlopes (unit 8) (pos 0 ∷ pos 1 ∷ pos 2 ∷ pos 3 ∷ []) (pos 0 ∷ pos 1 ∷ pos 4 ∷ pos 3 ∷ []) ≡ pos 0 ∷ pos 384 ∷ pos 0 ∷ negsuc 767 ∷ []
 both-ends-of-four = refl
 
 -- ---- two counts at opposite ends of 32 bits
 
 -- "Knots 2147483647, −2147483648: refused by 3 at place 0", whatever the two values and slopes
-pub ends-of-32-bits-are-refused : (v w m n : ℤ) → Given (Holds (table (pos 2147483647 ∷ negsuc 2147483647 ∷ []) (v ∷ w ∷ []) (m ∷ n ∷ []))) buildOrder 3 0
+pub ends-of-32-bits-are-refused : (v w m n : ℤ) → Given (Holds (table 8 (pos 2147483647 ∷ negsuc 2147483647 ∷ []) (v ∷ w ∷ []) (m ∷ n ∷ []))) buildOrder 3 0
 ends-of-32-bits-are-refused v w m n =
-    passed (same-length-passes (record { values = refl; slopes = refl }))
+    passed (unit-passes (record { high = omega arith }))
+    (passed (same-length-passes (record { values = refl; slopes = refl }))
     (passed (count-passes (record { low = omega arith; high = omega arith }))
-    (refused (width-outside {i = 0} (omega arith) (λ w. w .low .le)) (λ _ l _. absurd (omega (arith, l)))))
+    (refused (width-outside {i = 0} (omega arith) (λ w. w .low .le)) (λ _ l _. absurd (omega (arith, l))))))

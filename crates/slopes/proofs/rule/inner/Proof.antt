@@ -7,21 +7,21 @@ use mir.Facts.{toZ-ofZ}
 use Rattle.integers.specs.Within.{Within}
 use Rattle.integers.specs.Sizes.{Known, known, fits, plain-is, code}
 use Rattle.integers.specs.Tests.{tests, passed, passed-at-most, failed}
-use Rattle.integers.specs.Arguments.{arguments, plainly₄, as-coded₂}
-use Rattle.cubic.specs.Piece.{unit}
+use Rattle.integers.specs.Arguments.{arguments, plainly₅, as-coded₁, as-coded₂}
 use Rattle.cubic.specs.Slopes.{mean}
 use Rattle.cubic.specs.Inner.{inner-level, both-up, inner-up, both-down, inner-down}
-use Rattle.rules.specs.Known.{known-width, known-rise}
+use Rattle.rules.specs.Known.{UnitSize, known-unit, known-width, known-rise}
 use Rattle.slopes.specs.Sizes.{Up, Mean, turned, mean-within}
 use Rattle.slopes.proofs.rule.inner.Statement.{statement}
 use Rattle.slopes.proofs.rule.inner.Tie as tie
 
 abbrev given : tie.Start → List Known
 given s =
-    known-width (s .args .h1) (s .pre .0 .width)
-    ∷ known-rise (s .args .z1) (s .pre .0 .rise)
-    ∷ known-width (s .args .h2) (s .pre .1 .width)
-    ∷ known-rise (s .args .z2) (s .pre .1 .rise)
+    known-unit (s .args .unit) (s .pre .0)
+    ∷ known-width (s .args .h1) (s .pre .1 .0 .width)
+    ∷ known-rise (s .args .z1) (s .pre .1 .0 .rise)
+    ∷ known-width (s .args .h2) (s .pre .1 .1 .width)
+    ∷ known-rise (s .args .z2) (s .pre .1 .1 .rise)
     ∷ []
 
 mul-if1 : tie.Need-mul-if1
@@ -30,7 +30,7 @@ mul-if1 c = fits (given c) (search code depth 30 fits 9000) tt
 returns : tie.Need-returns
 returns c =
     let s = c .before in
-    inner-level unit (s .args .h1) (s .args .z1) (s .args .h2) (s .args .z2) (passed-at-most (given s) (c .if1 .taken) (search tests depth 30 fits 9000) tt)
+    inner-level (s .args .unit) (s .args .h1) (s .args .z1) (s .args .h2) (s .args .z2) (passed-at-most (given s) (c .if1 .taken) (search tests depth 30 fits 9000) tt)
 
 product : (c : tie.Else1) → let s = c .before .args in pos 0 <ℤ (s .z1 *ℤ s .z2)
 product c = failed (given (c .before)) (c .if1 .left) (search tests depth 30 fits 9000) tt
@@ -49,20 +49,22 @@ down c = passed (given (c .before .before)) (c .if2 .taken) (search tests depth 
 falls : (c : tie.Then2) → let s = c .before .before .args in Up (s .h1) (negℤ (s .z1)) × Up (s .h2) (negℤ (s .z2))
 falls c =
     let s = c .before .before in
-    let u = both-down unit (s .args .h1) (s .args .z1) (s .args .h2) (s .args .z2) (product (c .before)) (down c) in
-    (record { within = turned (s .pre .0); up = u .0 }, record { within = turned (s .pre .1); up = u .1 })
+    let u = both-down (s .args .unit) (s .args .h1) (s .args .z1) (s .args .h2) (s .args .z2) (product (c .before)) (down c) in
+    (record { within = turned (s .pre .1 .0); up = u .0 }, record { within = turned (s .pre .1 .1); up = u .1 })
 
 mean-requires : tie.Need-mean-requires
 mean-requires c κs =
-    let Γ = given (c .before .before) in
-    (as-coded₂ Γ Up (search arguments depth 30 fits 9000) tt (falls c .0), as-coded₂ Γ Up (search arguments depth 30 fits 9000) tt (falls c .1))
+    let Γ = given (c .before .before) in (
+      as-coded₁ Γ UnitSize (search arguments depth 30 fits 9000) tt (c .before .before .pre .0),
+      (as-coded₂ Γ Up (search arguments depth 30 fits 9000) tt (falls c .0), as-coded₂ Γ Up (search arguments depth 30 fits 9000) tt (falls c .1)),
+    )
 
-fallen : (c : tie.After-mean) → let s = c .before .before .before .args in c .mean .result ≡ mean unit (s .h1) (negℤ (s .z1)) (s .h2) (negℤ (s .z2))
+fallen : (c : tie.After-mean) → let s = c .before .before .before .args in c .mean .result ≡ mean (s .unit) (s .h1) (negℤ (s .z1)) (s .h2) (negℤ (s .z2))
 fallen c =
-    plainly₄ (given (c .before .before .before)) (λ (h₁ z₁ h₂ z₂ : ℤ). Mean h₁ z₁ h₂ z₂ (c .mean .result)) (c .mean .ensures) (search arguments depth 30 fits 9000) tt .is
+    plainly₅ (given (c .before .before .before)) (λ (U h₁ z₁ h₂ z₂ : ℤ). Mean U h₁ z₁ h₂ z₂ (c .mean .result)) (c .mean .ensures) (search code depth 30 fits 9000) (search arguments depth 30 fits 9000) tt .is
 
 small : (c : tie.After-mean) → Within 805306368 (c .mean .result)
-small c = subst (Within 805306368) (sym (fallen c)) (mean-within (falls (c .before) .0) (falls (c .before) .1))
+small c = subst (Within 805306368) (sym (fallen c)) (mean-within (c .before .before .before .pre .0) (falls (c .before) .0) (falls (c .before) .1))
 
 abbrev steepness : tie.After-mean → List Known
 steepness c = known (c .mean .result) 805306368 (small c) ∷ []
@@ -75,7 +77,7 @@ returns-2 c =
     let s = c .before .before .before .args in
     plain-is {Γ = steepness c} (search code depth 30 fits 9000) tt
     ∙ ap negℤ (fallen c)
-    ∙ inner-down unit (s .h1) (s .z1) (s .h2) (s .z2) (product (c .before .before)) (down (c .before))
+    ∙ inner-down (s .unit) (s .h1) (s .z1) (s .h2) (s .z2) (product (c .before .before)) (down (c .before))
 
 -- ---- two rises
 
@@ -85,17 +87,20 @@ up c = failed (given (c .before .before)) (c .if2 .left) (search tests depth 30 
 mean-requires-2 : tie.Need-mean-requires-2
 mean-requires-2 c κs =
     let s = c .before .before in
-    let u = both-up unit (s .args .h1) (s .args .z1) (s .args .h2) (s .args .z2) (product (c .before)) (up c) in (
-      as-coded₂ (given s) Up (search arguments depth 30 fits 9000) tt (record { within = s .pre .0; up = u .0 }),
-      as-coded₂ (given s) Up (search arguments depth 30 fits 9000) tt (record { within = s .pre .1; up = u .1 }),
+    let u = both-up (s .args .unit) (s .args .h1) (s .args .z1) (s .args .h2) (s .args .z2) (product (c .before)) (up c) in (
+      as-coded₁ (given s) UnitSize (search arguments depth 30 fits 9000) tt (s .pre .0),
+      (
+        as-coded₂ (given s) Up (search arguments depth 30 fits 9000) tt (record { within = s .pre .1 .0; up = u .0 }),
+        as-coded₂ (given s) Up (search arguments depth 30 fits 9000) tt (record { within = s .pre .1 .1; up = u .1 }),
+      ),
     )
 
 returns-3 : tie.Need-returns-3
 returns-3 c =
     let s = c .before .before .before in
     toZ-ofZ (record { sfits = c .mean2 .ok })
-    ∙ plainly₄ (given s) (λ (h₁ z₁ h₂ z₂ : ℤ). Mean h₁ z₁ h₂ z₂ (c .mean2 .result)) (c .mean2 .ensures) (search arguments depth 30 fits 9000) tt .is
-    ∙ inner-up unit (s .args .h1) (s .args .z1) (s .args .h2) (s .args .z2) (product (c .before .before)) (up (c .before))
+    ∙ plainly₅ (given s) (λ (U h₁ z₁ h₂ z₂ : ℤ). Mean U h₁ z₁ h₂ z₂ (c .mean2 .result)) (c .mean2 .ensures) (search code depth 30 fits 9000) (search arguments depth 30 fits 9000) tt .is
+    ∙ inner-up (s .args .unit) (s .args .h1) (s .args .z1) (s .args .h2) (s .args .z2) (product (c .before .before)) (up (c .before))
 
 pub inner-spec : {M : Type 1} → statement M
 inner-spec =

@@ -10,18 +10,18 @@ use Rattle.integers.specs.Order.{<ℤ→≤ℤ, 0<→1≤, signs, positives}
 use Rattle.integers.specs.Division.{quot-toward, toward-floor}
 use Rattle.integers.specs.Sizes.{Known, known, listed, first, fits, plain-is, code}
 use Rattle.integers.specs.Tests.{zeros, not-zero}
-use Rattle.cubic.specs.Piece.{unit}
 use Rattle.cubic.specs.Slopes.{meanAbove, meanBelow, mean}
-use Rattle.rules.specs.Known.{known-width, known-rise, 0<-width}
+use Rattle.rules.specs.Known.{known-unit, 0<-unit, known-width, known-rise, 0<-width}
 use Rattle.slopes.specs.Sizes.{mean-within}
 use Rattle.slopes.proofs.rule.mean.Statement.{statement}
 use Rattle.slopes.proofs.rule.mean.Tie as tie
 
 abbrev given : tie.Start → List Known
 given s =
-    let left = s .pre .0 in
-    let right = s .pre .1 in
-    known-width (s .args .h1) (left .within .width)
+    let left = s .pre .1 .0 in
+    let right = s .pre .1 .1 in
+    known-unit (s .args .unit) (s .pre .0)
+    ∷ known-width (s .args .h1) (left .within .width)
     ∷ known-rise (s .args .z1) (left .within .rise)
     ∷ known-width (s .args .h2) (right .within .width)
     ∷ known-rise (s .args .z2) (right .within .rise)
@@ -76,10 +76,10 @@ add-below-3 c = fits (given c) (search code depth 30 fits 9000) tt
 -- the sum below is above 0
 divisor : (s : tie.Start) → pos 1 ≤ℤ meanBelow (s .args .h1) (s .args .z1) (s .args .h2) (s .args .z2)
 divisor s =
-    let h₁ = 0<-width (s .pre .0 .within .width) in
-    let z₁ = s .pre .0 .up in
-    let h₂ = 0<-width (s .pre .1 .within .width) in
-    let z₂ = s .pre .1 .up in 0<→1≤ (search positives depth 9 fits 9000)
+    let h₁ = 0<-width (s .pre .1 .0 .within .width) in
+    let z₁ = s .pre .1 .0 .up in
+    let h₂ = 0<-width (s .pre .1 .1 .within .width) in
+    let z₂ = s .pre .1 .1 .up in 0<→1≤ (search positives depth 9 fits 9000)
 
 div-steepness : tie.Need-div-steepness
 div-steepness c =
@@ -88,22 +88,23 @@ div-steepness c =
 
 -- the quotient of the exact rules, which the code's plain value is
 abbrev quotient : tie.Start → ℤ
-quotient s = let a = s .args in quotZ (meanAbove unit (a .h1) (a .z1) (a .h2) (a .z2)) (meanBelow (a .h1) (a .z1) (a .h2) (a .z2))
+quotient s = let a = s .args in quotZ (meanAbove (a .unit) (a .h1) (a .z1) (a .h2) (a .z2)) (meanBelow (a .h1) (a .z1) (a .h2) (a .z2))
 
-is-mean : (s : tie.Start) → let a = s .args in quotient s ≡ mean unit (a .h1) (a .z1) (a .h2) (a .z2)
+is-mean : (s : tie.Start) → let a = s .args in quotient s ≡ mean (a .unit) (a .h1) (a .z1) (a .h2) (a .z2)
 is-mean s =
     let a = s .args in
-    let h₁ = <ℤ→≤ℤ (0<-width (s .pre .0 .within .width)) in
-    let z₁ = <ℤ→≤ℤ (s .pre .0 .up) in
-    let h₂ = <ℤ→≤ℤ (0<-width (s .pre .1 .within .width)) in
-    let z₂ = <ℤ→≤ℤ (s .pre .1 .up) in
-    quot-toward (meanAbove unit (a .h1) (a .z1) (a .h2) (a .z2)) (divisor s)
+    let u = <ℤ→≤ℤ (0<-unit (s .pre .0)) in
+    let h₁ = <ℤ→≤ℤ (0<-width (s .pre .1 .0 .within .width)) in
+    let z₁ = <ℤ→≤ℤ (s .pre .1 .0 .up) in
+    let h₂ = <ℤ→≤ℤ (0<-width (s .pre .1 .1 .within .width)) in
+    let z₂ = <ℤ→≤ℤ (s .pre .1 .1 .up) in
+    quot-toward (meanAbove (a .unit) (a .h1) (a .z1) (a .h2) (a .z2)) (divisor s)
     ∙ toward-floor (meanBelow (a .h1) (a .z1) (a .h2) (a .z2)) (search signs depth 9 fits 9000)
 
 -- it fits 32 bits
-small : (s : tie.Start) → let a = s .args in SFits w32 (mean unit (a .h1) (a .z1) (a .h2) (a .z2))
+small : (s : tie.Start) → let a = s .args in SFits w32 (mean (a .unit) (a .h1) (a .z1) (a .h2) (a .z2))
 small s =
-    fits (known _ 805306368 (mean-within (s .pre .0) (s .pre .1)) ∷ []) (listed first) tt
+    fits (known _ 805306368 (mean-within (s .pre .0) (s .pre .1 .0) (s .pre .1 .1)) ∷ []) (listed first) tt
 
 cast-result : tie.Need-cast-result
 cast-result c =

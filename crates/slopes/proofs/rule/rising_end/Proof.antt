@@ -2,7 +2,7 @@
 use mathlib.Core.Path.{_≡_, refl, sym, _∙_, subst}
 use mathlib.Core.List.{List, [], _∷_}
 use lib.IntN.{ℤ, pos, _*ℤ_}
-use lib.Signed.{_≤ℤ_, _<ℤ_, ltZ-yes, quotZ}
+use lib.Signed.{_≤ℤ_, _<ℤ_, quotZ}
 use mir.Syntax.{w32, w64}
 use mir.Val.{SFits}
 use mir.Facts.{toZ-ofZ}
@@ -10,31 +10,34 @@ use Rattle.integers.specs.Order.{<ℤ→≤ℤ, 0<→1≤, 0≤-number, 0≤-pr
 use Rattle.integers.specs.Division.{positive-bits, quot-toward, toward-floor}
 use Rattle.integers.specs.Sizes.{Known, known, listed, first, fits, plain-is, code}
 use Rattle.integers.specs.Tests.{tests, passed, passed-at-most, failed, zeros, not-zero}
-use Rattle.cubic.specs.Piece.{unit}
 use Rattle.cubic.specs.Slopes.{endAbove, endBelow, endSlope}
 use Rattle.cubic.specs.End.{0<-endBelow, rising-level, rising-bound, rising-quotient}
-use Rattle.rules.specs.Known.{known-width, known-rise, 0<-width}
+use Rattle.rules.specs.Known.{known-unit, 0<-unit, known-width, known-rise, 0<-width}
 use Rattle.slopes.specs.Sizes.{end-within}
 use Rattle.slopes.proofs.rule.rising_end.Statement.{statement}
 use Rattle.slopes.proofs.rule.rising_end.Tie as tie
 
 abbrev given : tie.Start → List Known
 given s =
-    known-width (s .args .h1) (s .pre .0 .width)
-    ∷ known-rise (s .args .z1) (s .pre .0 .rise)
-    ∷ known-width (s .args .h2) (s .pre .1 .0 .width)
-    ∷ known-rise (s .args .z2) (s .pre .1 .0 .rise)
+    known-unit (s .args .unit) (s .pre .0)
+    ∷ known-width (s .args .h1) (s .pre .1 .0 .width)
+    ∷ known-rise (s .args .z1) (s .pre .1 .0 .rise)
+    ∷ known-width (s .args .h2) (s .pre .1 .1 .0 .width)
+    ∷ known-rise (s .args .z2) (s .pre .1 .1 .0 .rise)
     ∷ []
 
 -- what is known of the pieces, and the numerator, the denominator and the slope of the rule
-0<-unit : pos 0 <ℤ unit
-0<-unit = ltZ-yes tt
+up : (s : tie.Start) → pos 0 <ℤ s .args .unit
+up s = 0<-unit (s .pre .0)
 
 left-width : (s : tie.Start) → pos 0 <ℤ s .args .h1
-left-width s = 0<-width (s .pre .0 .width)
+left-width s = 0<-width (s .pre .1 .0 .width)
 
 right-width : (s : tie.Start) → pos 0 <ℤ s .args .h2
-right-width s = 0<-width (s .pre .1 .0 .width)
+right-width s = 0<-width (s .pre .1 .1 .0 .width)
+
+not-falling : (s : tie.Start) → pos 0 ≤ℤ s .args .z1
+not-falling s = s .pre .1 .1 .1
 
 abbrev above : tie.Start → ℤ
 above s = endAbove (s .args .h1) (s .args .z1) (s .args .h2) (s .args .z2)
@@ -43,10 +46,10 @@ abbrev below : tie.Start → ℤ
 below s = endBelow (s .args .h1) (s .args .h2)
 
 abbrev slope : tie.Start → ℤ
-slope s = endSlope unit (s .args .h1) (s .args .z1) (s .args .h2) (s .args .z2)
+slope s = endSlope (s .args .unit) (s .args .h1) (s .args .z1) (s .args .h2) (s .args .z2)
 
 small : (s : tie.Start) → SFits w32 (slope s)
-small s = fits (known _ 805306368 (end-within (s .pre .0) (s .pre .1 .0)) ∷ []) (listed first) tt
+small s = fits (known _ 805306368 (end-within (s .pre .0) (s .pre .1 .0) (s .pre .1 .1 .0)) ∷ []) (listed first) tt
 
 -- ---- the numerator
 
@@ -76,7 +79,7 @@ sub-above c = fits (given c) (search code depth 30 fits 9000) tt
 returns : tie.Need-returns
 returns c =
     let s = c .before in
-    record { is = rising-level 0<-unit (left-width s) (right-width s) (s .pre .1 .1) (s .args .z2) (passed-at-most (given s) (c .if1 .taken) (search tests depth 30 fits 9000) tt) }
+    record { is = rising-level (up s) (left-width s) (right-width s) (not-falling s) (s .args .z2) (passed-at-most (given s) (c .if1 .taken) (search tests depth 30 fits 9000) tt) }
 
 0<-above : (c : tie.Else1) → pos 0 <ℤ above (c .before)
 0<-above c = failed (given (c .before)) (c .if1 .left) (search tests depth 30 fits 9000) tt
@@ -108,7 +111,7 @@ mul-bound-2 : tie.Need-mul-bound-2
 mul-bound-2 c = fits (given (c .before .before)) (search code depth 30 fits 9000) tt
 
 div-bound : tie.Need-div-bound
-div-bound c = (positive-bits w64 (c .before .before .pre .0 .width .low), fits (given (c .before .before)) (search code depth 30 fits 9000) tt)
+div-bound c = (positive-bits w64 (c .before .before .pre .1 .0 .width .low), fits (given (c .before .before)) (search code depth 30 fits 9000) tt)
 
 cast-result : tie.Need-cast-result
 cast-result c = fits (given (c .before .before)) (search code depth 30 fits 9000) tt
@@ -120,9 +123,9 @@ returns-2 c =
     record {
       is =
           plain-is {Γ = given s} (search code depth 30 fits 9000) tt
-          ∙ quot-toward (unit *ℤ (pos 3 *ℤ s .args .z1)) (s .pre .0 .width .low)
-          ∙ toward-floor h (0≤-product (0≤-number 256) (0≤-product (0≤-number 3) (s .pre .1 .1)))
-          ∙ rising-bound 0<-unit (left-width s) (right-width s) (s .pre .1 .1) (s .args .z2) (passed (given s) (c .if2 .taken) (search tests depth 30 fits 9000) tt);
+          ∙ quot-toward (s .args .unit *ℤ (pos 3 *ℤ s .args .z1)) (s .pre .1 .0 .width .low)
+          ∙ toward-floor h (0≤-product (<ℤ→≤ℤ (up s)) (0≤-product (0≤-number 3) (not-falling s)))
+          ∙ rising-bound (up s) (left-width s) (right-width s) (not-falling s) (s .args .z2) (passed (given s) (c .if2 .taken) (search tests depth 30 fits 9000) tt);
     }
 
 -- ---- neither
@@ -140,15 +143,15 @@ div-quotient c =
 
 -- the quotient of the rule, which the code's plain value is
 abbrev quotient : tie.Start → ℤ
-quotient s = quotZ (unit *ℤ above s) (below s)
+quotient s = quotZ (s .args .unit *ℤ above s) (below s)
 
 is-slope : (c : tie.Else2) → quotient (c .before .before) ≡ slope (c .before .before)
 is-slope c =
     let s = c .before .before in
-    let up = 0<-above (c .before) in
-    quot-toward (unit *ℤ above s) (divisor s)
-    ∙ toward-floor (below s) (0≤-product (0≤-number 256) (<ℤ→≤ℤ up))
-    ∙ rising-quotient 0<-unit (left-width s) (right-width s) (s .pre .1 .1) (s .args .z2) up (failed (given s) (c .if2 .left) (search tests depth 30 fits 9000) tt)
+    let a = 0<-above (c .before) in
+    quot-toward (s .args .unit *ℤ above s) (divisor s)
+    ∙ toward-floor (below s) (0≤-product (<ℤ→≤ℤ (up s)) (<ℤ→≤ℤ a))
+    ∙ rising-quotient (up s) (left-width s) (right-width s) (not-falling s) (s .args .z2) a (failed (given s) (c .if2 .left) (search tests depth 30 fits 9000) tt)
 
 cast-result-2 : tie.Need-cast-result-2
 cast-result-2 c =

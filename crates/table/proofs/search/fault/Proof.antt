@@ -94,9 +94,10 @@ before-z c = c .before .before .before .before .before .before .before
 is-monotone-requires : tie.Need-is-monotone-requires
 is-monotone-requires c κs =
     let e = c .before .before in
-    let s = start (before-z e) in
-    (as-coded₁ (given s) UnitSize (search arguments depth 30 fits 9000) tt (s .pre .0),
-    (told (before-z e .before .before .width-within .ensures) (not-false _ (before-z e .before .if1 .left)), told (e .before .before .rise-within .ensures) (not-false _ (e .before .if3 .left))))
+    let s = start (before-z e) in (
+      as-coded₁ (given s) UnitSize (search arguments depth 30 fits 9000) tt (s .pre .0),
+      (told (before-z e .before .before .width-within .ensures) (not-false _ (before-z e .before .if1 .left)), told (e .before .before .rise-within .ensures) (not-false _ (e .before .if3 .left))),
+    )
 
 monotone : (c : tie.After-is-monotone) → let s = start (before-z (c .before .before .before)) in Decided (Monotone (s .args .unit) (h s) (z s) (s .args .left .slope) (s .args .right .slope)) (c .is-monotone .result)
 monotone c =

@@ -65,9 +65,10 @@ fault-requires : tie.Need-fault-requires Inv-loop μ-loop
 fault-requires c κs =
     let l = c .before .before .loop .inv .2 in
     let r = c .end-at2 .ensures in
-    let u = before-loop c .unit in
-    (as-coded₁ (known-unit (u .result) (u .ensures .1) ∷ []) UnitSize (search arguments depth 30 fits 9000) tt (u .ensures .1),
-    ((l .knot-read .within, r .knot-read .within), (l .value-read .within, r .value-read .within)))
+    let u = before-loop c .unit in (
+      as-coded₁ (known-unit (u .result) (u .ensures .1) ∷ []) UnitSize (search arguments depth 30 fits 9000) tt (u .ensures .1),
+      ((l .knot-read .within, r .knot-read .within), (l .value-read .within, r .value-read .within)),
+    )
 
 -- what is found of the piece between the two
 found : (c : tie.After-fault Inv-loop μ-loop)
