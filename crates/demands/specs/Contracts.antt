@@ -46,82 +46,91 @@ list xs = record { ptr = (0, 0); name = 0; now = xs }
 abbrev pub three : Lfts 3
 three = ([], ([], ([], tt)))
 
--- the three lists of a table, with what comes behind them
+-- three lists, with what comes behind them
 abbrev pub Lent : Type 0 → Type 0
 Lent A = RefT (List ℤ) × (RefT (List ℤ) × (RefT (List ℤ) × A))
 
+-- those of a table, behind what comes first: the number of its unit, the unit itself, or nothing
 abbrev pub lists : {A : Type 0} → Table → A → Lent A
 lists t a = (list (t .knots), (list (t .values), (list (t .slopes), a)))
+
+abbrev pub whole : {A : Type 0} → Table → A → ℕ × Lent A
+whole t a = (t .s, lists t a)
 
 -- the table's three, of which the slopes are now these
 abbrev lists-with : {A : Type 0} → Table → List ℤ → A → Lent A
 lists-with t slopes a = (list (t .knots), (list (t .values), (list slopes, a)))
+
+abbrev whole-with : {A : Type 0} → Table → List ℤ → A → ℕ × Lent A
+whole-with t slopes a = (t .s, lists-with t slopes a)
 
 abbrev pub refusal : (number place : ℕ) → Refusal
 refusal number place = record { number = number; place = place }
 
 -- ---- of a piece
 
-module _ (h z m n : ℤ) where
+module _ (s : ℕ) (h z m n : ℤ) where
   abbrev pub Judges : Verdict → Type 0
-  Judges verdict = piece·judge.Post tt (h, (z, (m, (n, tt)))) verdict (h, (z, (m, (n, tt))))
+  Judges verdict = piece·judge.Post tt (s, (h, (z, (m, (n, tt))))) verdict (s, (h, (z, (m, (n, tt)))))
 
   abbrev pub JudgesC : (number place verdict : ℕ) → Type 0
-  JudgesC number place verdict = negwafir_judge.Post tt (h, (z, (m, (n, tt)))) (record { refusal = refusal number place; verdict = verdict }) (h, (z, (m, (n, tt))))
+  JudgesC number place verdict = negwafir_judge.Post tt (s, (h, (z, (m, (n, tt))))) (record { refusal = refusal number place; verdict = verdict }) (s, (h, (z, (m, (n, tt)))))
 
+-- with slopes in 1/U
+module _ (U h z m n : ℤ) where
   abbrev pub AskedMonotone : Type 0
-  AskedMonotone = piece·is_monotone.Pre tt (h, (z, (m, (n, tt))))
+  AskedMonotone = piece·is_monotone.Pre tt (U, (h, (z, (m, (n, tt)))))
 
   abbrev pub SaysMonotone : Bool → Type 0
-  SaysMonotone b = piece·is_monotone.Post tt (h, (z, (m, (n, tt)))) b (h, (z, (m, (n, tt))))
+  SaysMonotone b = piece·is_monotone.Post tt (U, (h, (z, (m, (n, tt))))) b (U, (h, (z, (m, (n, tt)))))
 
   abbrev pub AskedCoefficients : Type 0
-  AskedCoefficients = piece·coefficients.Pre tt (h, (z, (m, (n, tt))))
+  AskedCoefficients = piece·coefficients.Pre tt (U, (h, (z, (m, (n, tt)))))
 
   abbrev pub HasCoefficients : (first second third : ℤ) → Type 0
-  HasCoefficients first second third = piece·coefficients.Post tt (h, (z, (m, (n, tt)))) (record { first = first; second = second; third = third }) (h, (z, (m, (n, tt))))
+  HasCoefficients first second third = piece·coefficients.Post tt (U, (h, (z, (m, (n, tt))))) (record { first = first; second = second; third = third }) (U, (h, (z, (m, (n, tt)))))
 
 -- ---- of a table
 
 module _ (t : Table) where
   abbrev pub PointsAnswer : (number place : ℕ) → Type 0
-  PointsAnswer number place = table·points.Post three (lists t tt) (refusal number place) (lists t tt)
+  PointsAnswer number place = table·points.Post three (whole t tt) (refusal number place) (whole t tt)
 
   abbrev pub PointsAnswerC : (number place : ℕ) → Type 0
-  PointsAnswerC number place = negwafir_points.Post three (lists t tt) (refusal number place) (lists t tt)
+  PointsAnswerC number place = negwafir_points.Post three (whole t tt) (refusal number place) (whole t tt)
 
   abbrev pub Checks : (number place : ℕ) → Type 0
-  Checks number place = table·check.Post three (lists t tt) (refusal number place) (lists t tt)
+  Checks number place = table·check.Post three (whole t tt) (refusal number place) (whole t tt)
 
   abbrev pub ChecksC : (number place : ℕ) → Type 0
-  ChecksC number place = negwafir_check.Post three (lists t tt) (refusal number place) (lists t tt)
+  ChecksC number place = negwafir_check.Post three (whole t tt) (refusal number place) (whole t tt)
 
   abbrev pub Builds : (number place : ℕ) (after : List ℤ) → Type 0
-  Builds number place after = slopes·build.Post three (lists t tt) (refusal number place) (lists-with t after tt)
+  Builds number place after = slopes·build.Post three (whole t tt) (refusal number place) (whole-with t after tt)
 
   abbrev pub BuildsC : (number place : ℕ) (after : List ℤ) → Type 0
-  BuildsC number place after = negwafir_build.Post three (lists t tt) (refusal number place) (lists-with t after tt)
+  BuildsC number place after = negwafir_build.Post three (whole t tt) (refusal number place) (whole-with t after tt)
 
-  -- the slopes of the points from one number up to another
-  module _ (from to : ℕ) where
+  -- the slopes of the points from one number up to another, in 1/U
+  module _ (U : ℤ) (from to : ℕ) where
     abbrev pub AskedRenewal : Type 0
-    AskedRenewal = slopes·renew.Pre three (lists t (from, (to, tt)))
+    AskedRenewal = slopes·renew.Pre three (U, lists t (from, (to, tt)))
 
     abbrev pub RenewsTo : (after : List ℤ) → Type 0
-    RenewsTo after = slopes·renew.Post three (lists t (from, (to, tt))) tt (lists-with t after (from, (to, tt)))
+    RenewsTo after = slopes·renew.Post three (U, lists t (from, (to, tt))) tt (U, lists-with t after (from, (to, tt)))
 
   module _ (c : Change) where
     abbrev pub ChangedPoints : (number place : ℕ) → Type 0
-    ChangedPoints number place = table·changed_points.Post three (lists t (c, tt)) (refusal number place) (lists t (c, tt))
+    ChangedPoints number place = table·changed_points.Post three (whole t (c, tt)) (refusal number place) (whole t (c, tt))
 
     abbrev pub ChangedPointsC : (number place : ℕ) → Type 0
-    ChangedPointsC number place = negwafir_changed_points.Post three (lists t (c, tt)) (refusal number place) (lists t (c, tt))
+    ChangedPointsC number place = negwafir_changed_points.Post three (whole t (c, tt)) (refusal number place) (whole t (c, tt))
 
     abbrev pub Changes : (number place : ℕ) (after : Table) → Type 0
-    Changes number place after = change·point.Post three (lists t (c, tt)) (refusal number place) (lists after (c, tt))
+    Changes number place after = change·point.Post three (whole t (c, tt)) (refusal number place) (t .s, lists after (c, tt))
 
     abbrev pub ChangesC : (number place : ℕ) (after : Table) → Type 0
-    ChangesC number place after = negwafir_change_point.Post three (lists t (c, tt)) (refusal number place) (lists after (c, tt))
+    ChangesC number place after = negwafir_change_point.Post three (whole t (c, tt)) (refusal number place) (t .s, lists after (c, tt))
 
 module _ (xs : List ℤ) (i : ℕ) where
   abbrev pub AskedStep : Type 0
@@ -134,10 +143,10 @@ module _ (xs : List ℤ) (i : ℕ) where
 
 module _ (t : Table) (x : ℤ) where
   abbrev pub Locates : (number place piece : ℕ) → Type 0
-  Locates number place piece = position·locate.Post three (lists t (x, tt)) (record { refusal = refusal number place; piece = piece }) (lists t (x, tt))
+  Locates number place piece = position·locate.Post three (whole t (x, tt)) (record { refusal = refusal number place; piece = piece }) (whole t (x, tt))
 
   abbrev pub LocatesC : (number place piece : ℕ) → Type 0
-  LocatesC number place piece = negwafir_locate.Post three (lists t (x, tt)) (record { refusal = refusal number place; piece = piece }) (lists t (x, tt))
+  LocatesC number place piece = negwafir_locate.Post three (whole t (x, tt)) (record { refusal = refusal number place; piece = piece }) (whole t (x, tt))
 
   abbrev pub AskedSeek : Type 0
   AskedSeek = position·seek.Pre three (lists t (x, tt))
@@ -146,17 +155,17 @@ module _ (t : Table) (x : ℤ) where
   Seeks sought = position·seek.Post three (lists t (x, tt)) sought (lists t (x, tt))
 
   abbrev pub Evaluates : (number place : ℕ) (value : ℤ) → Type 0
-  Evaluates number place value = curve·evaluate.Post three (lists t (x, tt)) (record { refusal = refusal number place; value = value }) (lists t (x, tt))
+  Evaluates number place value = curve·evaluate.Post three (whole t (x, tt)) (record { refusal = refusal number place; value = value }) (whole t (x, tt))
 
   abbrev pub EvaluatesC : (number place : ℕ) (value : ℤ) → Type 0
-  EvaluatesC number place value = negwafir_evaluate.Post three (lists t (x, tt)) (record { refusal = refusal number place; value = value }) (lists t (x, tt))
+  EvaluatesC number place value = negwafir_evaluate.Post three (whole t (x, tt)) (record { refusal = refusal number place; value = value }) (whole t (x, tt))
 
   abbrev pub Drives : (number place : ℕ) → Answer → Type 0
-  Drives number place answer = drive·float_answer.Post three (lists t (x, tt)) (record { refusal = refusal number place; answer = answer }) (lists t (x, tt))
+  Drives number place answer = drive·float_answer.Post three (whole t (x, tt)) (record { refusal = refusal number place; answer = answer }) (whole t (x, tt))
 
   abbrev pub DrivesC : (number place kind : ℕ) (left numerator denominator : Float) → Type 0
   DrivesC number place kind left numerator denominator =
-      negwafir_float_answer.Post three (lists t (x, tt)) (record { refusal = refusal number place; kind = kind; left = left; numerator = numerator; denominator = denominator }) (lists t (x, tt))
+      negwafir_float_answer.Post three (whole t (x, tt)) (record { refusal = refusal number place; kind = kind; left = left; numerator = numerator; denominator = denominator }) (whole t (x, tt))
 
 -- ---- in C
 

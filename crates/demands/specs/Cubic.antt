@@ -1,5 +1,5 @@
 -- What the definition of a monotone piece says of the cubic itself.
-use mathlib.Core.Path.{_≡_, sym, _∙_}
+use mathlib.Core.Path.{_≡_, sym, _∙_, ap}
 use mathlib.Core.List.{[], _∷_}
 use native.Mathlib.Omega.{arith}
 use lib.Dec.{lit≤}
@@ -8,7 +8,7 @@ use lib.Signed.{_≤ℤ_, ≤ℤ-refl}
 use Rattle.integers.specs.Ring.{ring, quote}
 use Rattle.integers.specs.Linear.{lin, says}
 use Rattle.integers.specs.Order.{0≤-number, pos-≤}
-use Rattle.cubic.specs.Piece.{unit, slopeAt, riseAt, Monotone}
+use Rattle.cubic.specs.Piece.{slopeAt, riseAt, Monotone}
 use Rattle.cubic.specs.Rise.{at-left, at-right}
 use Rattle.cubic.specs.InOrder.{the-cubic-is-in-order}
 use Rattle.demands.specs.Demands.{NoSlopeAgainstItsRise}
@@ -49,24 +49,27 @@ at-half Z a b = ring (Z ∷ a ∷ b ∷ []) (search quote depth 30 fits 9000) tt
 at-third : (Z a b : ℤ) → riseAt Z a b (pos 1) (pos 3) ≡ pos 4 *ℤ a -ℤ pos 2 *ℤ b +ℤ pos 7 *ℤ Z
 at-third Z a b = ring (Z ∷ a ∷ b ∷ []) (search quote depth 30 fits 9000) tt
 
-settled : (z a b x y : ℤ) → z ≡ pos 0 → x ≡ a -ℤ b +ℤ pos 4 *ℤ (unit *ℤ z) → y ≡ pos 4 *ℤ a -ℤ pos 2 *ℤ b +ℤ pos 7 *ℤ (unit *ℤ z) → x ≡ pos 0 → y ≡ pos 0 → (a ≡ pos 0) × (b ≡ pos 0)
-settled z a b x y = lin (z ∷ a ∷ b ∷ x ∷ y ∷ []) (search says depth 30 fits 9000) (omega arith)
+settled : (Z a b x y : ℤ) → Z ≡ pos 0 → x ≡ a -ℤ b +ℤ pos 4 *ℤ Z → y ≡ pos 4 *ℤ a -ℤ pos 2 *ℤ b +ℤ pos 7 *ℤ Z → x ≡ pos 0 → y ≡ pos 0 → (a ≡ pos 0) × (b ≡ pos 0)
+settled Z a b x y = lin (Z ∷ a ∷ b ∷ x ∷ y ∷ []) (search says depth 30 fits 9000) (omega arith)
 
-module _ {h z m n : ℤ} where
-  pub no-slope-against : Monotone unit h z m n → NoSlopeAgainstItsRise h z m n
+module _ {U h z m n : ℤ} where
+  pub no-slope-against : Monotone U h z m n → NoSlopeAgainstItsRise U h z m n
   no-slope-against o =
       record {
         while-rising = λ p. o .rising p .at;
-        while-falling = λ p k q q₁ k₁. down (turned (unit *ℤ z) (m *ℤ h) (n *ℤ h) (pos k) (pos q)) (o .falling p .at k q q₁ k₁);
-        while-level = λ e k q q₁ k₁. sym (the-cubic-is-in-order o (pos 0) (pos k) (pos q) (≤ℤ-refl (pos 0)) (0≤-number k) (pos-≤ k₁) (pos-≤ q₁) .level e) ∙ at-left (unit *ℤ z) (m *ℤ h) (n *ℤ h) (pos q);
+        while-falling = λ p k q q₁ k₁. down (turned (U *ℤ z) (m *ℤ h) (n *ℤ h) (pos k) (pos q)) (o .falling p .at k q q₁ k₁);
+        while-level = λ e k q q₁ k₁. sym (the-cubic-is-in-order o (pos 0) (pos k) (pos q) (≤ℤ-refl (pos 0)) (0≤-number k) (pos-≤ k₁) (pos-≤ q₁) .level e) ∙ at-left (U *ℤ z) (m *ℤ h) (n *ℤ h) (pos q);
       }
 
-  pub monotone-without : NoSlopeAgainstItsRise h z m n → Monotone unit h z m n
+  pub monotone-without : NoSlopeAgainstItsRise U h z m n → Monotone U h z m n
   monotone-without o =
       record {
         rising = λ p. record { at = o .while-rising p };
-        falling = λ p. record { at = λ k q q₁ k₁. up (turned (unit *ℤ z) (m *ℤ h) (n *ℤ h) (pos k) (pos q)) (o .while-falling p k q q₁ k₁) };
+        falling = λ p. record { at = λ k q q₁ k₁. up (turned (U *ℤ z) (m *ℤ h) (n *ℤ h) (pos k) (pos q)) (o .while-falling p k q q₁ k₁) };
         level = λ e.
-            settled z (m *ℤ h) (n *ℤ h) _ _ e (at-half (unit *ℤ z) (m *ℤ h) (n *ℤ h)) (at-third (unit *ℤ z) (m *ℤ h) (n *ℤ h)) (o .while-level e 1 2 (lit≤ tt) (lit≤ tt))
+            settled (U *ℤ z) (m *ℤ h) (n *ℤ h) _ _ (ap (λ (x : ℤ). U *ℤ x) e ∙ none U) (at-half (U *ℤ z) (m *ℤ h) (n *ℤ h)) (at-third (U *ℤ z) (m *ℤ h) (n *ℤ h)) (o .while-level e 1 2 (lit≤ tt) (lit≤ tt))
             (o .while-level e 1 3 (lit≤ tt) (lit≤ tt));
       }
+    where
+      none : (x : ℤ) → x *ℤ pos 0 ≡ pos 0
+      none x = ring (x ∷ []) (search quote depth 30 fits 9000) tt

@@ -3,13 +3,12 @@ use mathlib.Core.Logic.{⊎-elim}
 use mathlib.Core.Path.{_≡_, refl, sym, _∙_, ap, subst}
 use Prim.Native.Nat.{zero, suc}
 use lib.IntN.{ℤ, pos, negsuc, _*ℤ_, *ℤ-comm}
-use lib.Signed.{_≤ℤ_, _<ℤ_, ltZ-yes, ≤ℤ-refl}
+use lib.Signed.{_≤ℤ_, _<ℤ_, ≤ℤ-refl}
 use Rattle.integers.specs.Promise.{Floor, floorOf, magnitude, withSign}
 use Rattle.integers.specs.Order.{signs, positives, <ℤ→≤ℤ, ≤ℤ-or-<ℤ}
 use Rattle.integers.specs.Signs.{0<-magnitude, by-sign}
 use Rattle.integers.specs.Division.{floor-of, floor-unique, 0≤-floor, toward-scaled}
 use Rattle.integers.specs.Decided.{<ℤ-or-not}
-use Rattle.cubic.specs.Piece.{unit}
 use Rattle.cubic.specs.Slopes.{inUnits, endSlope, meanAbove, meanBelow, innerSlope}
 use Rattle.cubic.specs.End.{0<-endBelow, end-level, end-bounded, end-unbounded}
 use Rattle.cubic.specs.Inner.{inner-level, inner-steep}
@@ -32,18 +31,18 @@ module _ (z n d : ℤ) {s : ℤ} (n₀ : pos 0 ≤ℤ n) (d₀ : pos 0 <ℤ d) (
   its-sign : s ≡ withSign z (magnitude s)
   its-sign = e ∙ ap (withSign z) (sym size-is)
 
-pub in-units : {d : ℤ} (n : ℤ) → pos 0 <ℤ d → InUnits n d (inUnits unit n d)
-in-units {d} n d₀ =
-    let e = toward-scaled {k = unit} (ltZ-yes tt) n d in
-    let n₀ : pos 0 ≤ℤ (unit *ℤ magnitude n) = search signs in
-    record { size = its-size n (unit *ℤ magnitude n) d n₀ d₀ e; sign = its-sign n (unit *ℤ magnitude n) d n₀ d₀ e }
+pub in-units : {U d : ℤ} (n : ℤ) → pos 0 <ℤ U → pos 0 <ℤ d → InUnits U n d (inUnits U n d)
+in-units {U} {d} n u d₀ =
+    let e = toward-scaled {k = U} u n d in
+    let n₀ : pos 0 ≤ℤ (U *ℤ magnitude n) = let u₀ = <ℤ→≤ℤ u in search signs in
+    record { size = its-size n (U *ℤ magnitude n) d n₀ d₀ e; sign = its-sign n (U *ℤ magnitude n) d n₀ d₀ e }
 
-pub end-rule : {h₁ h₂ : ℤ} (z₁ z₂ : ℤ) → pos 0 <ℤ h₁ → pos 0 <ℤ h₂ → EndRule h₁ z₁ h₂ z₂ (endSlope unit h₁ z₁ h₂ z₂)
-end-rule {h₁} {h₂} z₁ z₂ p q =
+pub end-rule : {U h₁ h₂ : ℤ} (z₁ z₂ : ℤ) → pos 0 <ℤ U → pos 0 <ℤ h₁ → pos 0 <ℤ h₂ → EndRule U h₁ z₁ h₂ z₂ (endSlope U h₁ z₁ h₂ z₂)
+end-rule {U} {h₁} {h₂} z₁ z₂ u p q =
     record {
-      zero-or-opposed = λ l. sym (end-level unit h₁ z₁ h₂ z₂ l);
-      beyond-the-bound = λ a b c. subst (InUnits (withSign z₁ (pos 3 *ℤ magnitude z₁)) h₁) (end-bounded unit h₁ z₁ h₂ z₂ a b c) (in-units _ p);
-      otherwise = λ a f. subst (InUnits (endAbove h₁ z₁ h₂ z₂) (endBelow h₁ h₂)) (end-unbounded unit h₁ z₁ h₂ z₂ a f) (in-units _ (0<-endBelow p q));
+      zero-or-opposed = λ l. sym (end-level U h₁ z₁ h₂ z₂ l);
+      beyond-the-bound = λ a b c. subst (InUnits U (withSign z₁ (pos 3 *ℤ magnitude z₁)) h₁) (end-bounded U h₁ z₁ h₂ z₂ a b c) (in-units _ u p);
+      otherwise = λ a f. subst (InUnits U (endAbove h₁ z₁ h₂ z₂) (endBelow h₁ h₂)) (end-unbounded U h₁ z₁ h₂ z₂ a f) (in-units _ u (0<-endBelow p q));
     }
 
 -- what stands below the mean's line is above 0
@@ -56,23 +55,22 @@ both-sizes z₁ z₂ t = (0<-magnitude z₁ z₂ t, 0<-magnitude z₂ z₁ (subs
     let b = both-sizes z₁ z₂ t .1 in
     search positives depth 9 fits 9000
 
-pub mean-rule : {h₁ h₂ : ℤ} (z₁ z₂ : ℤ) → pos 0 <ℤ h₁ → pos 0 <ℤ h₂ → MeanRule h₁ z₁ h₂ z₂ (innerSlope unit h₁ z₁ h₂ z₂)
-mean-rule {h₁} {h₂} z₁ z₂ p q =
+pub mean-rule : {U h₁ h₂ : ℤ} (z₁ z₂ : ℤ) → pos 0 <ℤ U → pos 0 <ℤ h₁ → pos 0 <ℤ h₂ → MeanRule U h₁ z₁ h₂ z₂ (innerSlope U h₁ z₁ h₂ z₂)
+mean-rule {U} {h₁} {h₂} z₁ z₂ u p q =
     record {
-      apart = λ l. sym (inner-level unit h₁ z₁ h₂ z₂ l);
-      size = λ t. its-size z₁ above below (<ℤ→≤ℤ (above₀ t)) (below₀ t) (sym (inner-steep unit h₁ z₁ h₂ z₂ t));
-      sign = λ t. its-sign z₁ above below (<ℤ→≤ℤ (above₀ t)) (below₀ t) (sym (inner-steep unit h₁ z₁ h₂ z₂ t));
+      apart = λ l. sym (inner-level U h₁ z₁ h₂ z₂ l);
+      size = λ t. its-size z₁ above below (<ℤ→≤ℤ (above₀ t)) (below₀ t) (sym (inner-steep U h₁ z₁ h₂ z₂ t));
+      sign = λ t. its-sign z₁ above below (<ℤ→≤ℤ (above₀ t)) (below₀ t) (sym (inner-steep U h₁ z₁ h₂ z₂ t));
     }
   where
     above : ℤ
-    above = meanAbove unit h₁ (magnitude z₁) h₂ (magnitude z₂)
+    above = meanAbove U h₁ (magnitude z₁) h₂ (magnitude z₂)
 
     below : ℤ
     below = meanBelow h₁ (magnitude z₁) h₂ (magnitude z₂)
 
     above₀ : pos 0 <ℤ (z₁ *ℤ z₂) → pos 0 <ℤ above
     above₀ t =
-        let u : pos 0 <ℤ unit = ltZ-yes tt in
         let a = both-sizes z₁ z₂ t .0 in
         let b = both-sizes z₁ z₂ t .1 in
         search positives
@@ -82,11 +80,11 @@ mean-rule {h₁} {h₂} z₁ z₂ p q =
 
 -- ---- and each rule admits one slope only
 
-pub one-in-units : {n d s r : ℤ} → pos 0 <ℤ d → InUnits n d s → InUnits n d r → s ≡ r
+pub one-in-units : {U n d s r : ℤ} → pos 0 <ℤ d → InUnits U n d s → InUnits U n d r → s ≡ r
 one-in-units {n = n} d₀ a b = a .sign ∙ ap (withSign n) (floor-unique d₀ (a .size) (b .size)) ∙ sym (b .sign)
 
-pub one-end : {h₁ z₁ h₂ z₂ s r : ℤ} → pos 0 <ℤ h₁ → pos 0 <ℤ h₂ → EndRule h₁ z₁ h₂ z₂ s → EndRule h₁ z₁ h₂ z₂ r → s ≡ r
-one-end {h₁} {z₁} {h₂} {z₂} {s} {r} p q a b = ⊎-elim (λ l. a .zero-or-opposed l ∙ sym (b .zero-or-opposed l)) steep (≤ℤ-or-<ℤ (endAbove h₁ z₁ h₂ z₂ *ℤ z₁) (pos 0))
+pub one-end : {U h₁ z₁ h₂ z₂ s r : ℤ} → pos 0 <ℤ h₁ → pos 0 <ℤ h₂ → EndRule U h₁ z₁ h₂ z₂ s → EndRule U h₁ z₁ h₂ z₂ r → s ≡ r
+one-end {h₁ = h₁} {z₁} {h₂} {z₂} {s} {r} p q a b = ⊎-elim (λ l. a .zero-or-opposed l ∙ sym (b .zero-or-opposed l)) steep (≤ℤ-or-<ℤ (endAbove h₁ z₁ h₂ z₂ *ℤ z₁) (pos 0))
   where
     steep : pos 0 <ℤ (endAbove h₁ z₁ h₂ z₂ *ℤ z₁) → s ≡ r
     steep l = ⊎-elim within beyond (≤ℤ-or-<ℤ (magnitude (endAbove h₁ z₁ h₂ z₂) *ℤ h₁) (pos 3 *ℤ magnitude z₁ *ℤ endBelow h₁ h₂))
@@ -100,7 +98,7 @@ one-end {h₁} {z₁} {h₂} {z₂} {s} {r} p q a b = ⊎-elim (λ l. a .zero-or
         beyond : (pos 3 *ℤ magnitude z₁ *ℤ endBelow h₁ h₂) <ℤ (magnitude (endAbove h₁ z₁ h₂ z₂) *ℤ h₁) → s ≡ r
         beyond m = ⊎-elim (λ o. one-in-units p (a .beyond-the-bound l o m) (b .beyond-the-bound l o m)) (λ f. plain (λ o. absurd (f o))) (<ℤ-or-not (z₁ *ℤ z₂) (pos 0))
 
-pub one-mean : {h₁ z₁ h₂ z₂ s r : ℤ} → pos 0 <ℤ h₁ → pos 0 <ℤ h₂ → MeanRule h₁ z₁ h₂ z₂ s → MeanRule h₁ z₁ h₂ z₂ r → s ≡ r
+pub one-mean : {U h₁ z₁ h₂ z₂ s r : ℤ} → pos 0 <ℤ h₁ → pos 0 <ℤ h₂ → MeanRule U h₁ z₁ h₂ z₂ s → MeanRule U h₁ z₁ h₂ z₂ r → s ≡ r
 one-mean {z₁ = z₁} {z₂ = z₂} p q a b = ⊎-elim (λ t. a .sign t ∙ ap (withSign z₁) (floor-unique (0<-below z₁ z₂ p q t) (a .size t) (b .size t)) ∙ sym (b .sign t)) (λ f. a .apart (at-most f) ∙ sym (b .apart (at-most f))) (<ℤ-or-not (pos 0) (z₁ *ℤ z₂))
   where
     at-most : (pos 0 <ℤ (z₁ *ℤ z₂) → ⊥) → (z₁ *ℤ z₂) ≤ℤ pos 0

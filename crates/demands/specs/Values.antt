@@ -2,19 +2,18 @@
 use mathlib.Core.Path.{_≡_, sym, subst}
 use mathlib.Core.List.{[], _∷_}
 use mathlib.Core.Logic.{⊎-elim}
-use Prim.Native.Nat.{suc}
+use Prim.Native.Nat.{ℕ, suc}
 use native.Mathlib.Omega.{arith}
 use lib.IntN.{ℤ, pos, negsuc, negℤ, _+ℤ_, _-ℤ_, _*ℤ_}
-use lib.Signed.{_≤ℤ_, _<ℤ_, ltZ-yes}
+use lib.Signed.{_≤ℤ_, _<ℤ_}
 use Rattle.integers.specs.Promise.{Nearest, magnitude}
 use Rattle.integers.specs.Linear.{lin, says}
 use Rattle.integers.specs.Order.{0≤-number, <ℤ→≤ℤ, ≤ℤ-antisym, ≤ℤ-or-<ℤ}
 use Rattle.integers.specs.Nearest.{nearest-of, nearest-unique}
-use Rattle.cubic.specs.Piece.{unit}
 use Rattle.cubic.specs.Value.{numerator, denominator}
 use Rattle.cubic.specs.Rounded.{0<-denominator}
-use Rattle.rules.specs.Limits.{WidthWithin}
-use Rattle.rules.specs.Known.{0<-width}
+use Rattle.rules.specs.Limits.{unit, UnitWithin, WidthWithin}
+use Rattle.rules.specs.Known.{unit-size, 0<-unit, 0<-width}
 use Rattle.table.specs.Table.{Table, entry}
 use Rattle.table.specs.Accepted.{PointsWithin}
 use Rattle.position.specs.Pieces.{within-list}
@@ -57,44 +56,44 @@ so-once x = lin (x ∷ []) (search says depth 30 fits 9000) (omega arith)
 so-twice : (x : ℤ) → pos 0 <ℤ x → pos 0 <ℤ (pos 2 *ℤ x)
 so-twice x = lin (x ∷ []) (search says depth 30 fits 9000) (omega arith)
 
-module _ (h z m n left t v : ℤ) where
-  to-exact : Nearest (numerator unit h z m n t) (denominator unit h) (v -ℤ left) → NearestToExact h z m n left t v
+module _ (U h z m n left t v : ℤ) where
+  to-exact : Nearest (numerator U h z m n t) (denominator U h) (v -ℤ left) → NearestToExact U h z m n left t v
   to-exact e =
-      let x = (v -ℤ left) *ℤ denominator unit h in
-      let y = numerator unit h z m n t in
-      let s = to-size (pos 2 *ℤ (x -ℤ y)) (e .above) (subst (λ (w : ℤ). w <ℤ denominator unit h) (sym (minus x y)) (e .below)) in
+      let x = (v -ℤ left) *ℤ denominator U h in
+      let y = numerator U h z m n t in
+      let s = to-size (pos 2 *ℤ (x -ℤ y)) (e .above) (subst (λ (w : ℤ). w <ℤ denominator U h) (sym (minus x y)) (e .below)) in
       record { at-most-a-half-away = s .0; a-half-goes-up = λ g. so-once (x -ℤ y) (s .1 g) }
 
-  from-exact : pos 0 <ℤ denominator unit h → NearestToExact h z m n left t v → Nearest (numerator unit h z m n t) (denominator unit h) (v -ℤ left)
+  from-exact : pos 0 <ℤ denominator U h → NearestToExact U h z m n left t v → Nearest (numerator U h z m n t) (denominator U h) (v -ℤ left)
   from-exact d₀ e =
-      let x = (v -ℤ left) *ℤ denominator unit h in
-      let y = numerator unit h z m n t in
+      let x = (v -ℤ left) *ℤ denominator U h in
+      let y = numerator U h z m n t in
       let s = from-size (pos 2 *ℤ (x -ℤ y)) d₀ (e .at-most-a-half-away) (λ g. so-twice (x -ℤ y) (e .a-half-goes-up g)) in
-      record { above = s .0; below = subst (λ (w : ℤ). w <ℤ denominator unit h) (minus x y) (s .1) }
+      record { above = s .0; below = subst (λ (w : ℤ). w <ℤ denominator U h) (minus x y) (s .1) }
 
--- ---- and of a table whose points are within the limits
+-- ---- and of a table whose unit and points are within the limits
 
-positive : {h : ℤ} → WidthWithin h → pos 0 <ℤ denominator unit h
-positive w = 0<-denominator {U = unit} (ltZ-yes tt) (0<-width w)
+positive : {s : ℕ} {h : ℤ} → UnitWithin s → WidthWithin h → pos 0 <ℤ denominator (unit s) h
+positive u w = 0<-denominator (0<-unit (unit-size u)) (0<-width w)
 
-pub the-value-is-exact : {t : Table} {x v : ℤ} → PointsWithin (t .knots) (t .values) → ValueAt t x v → ExactRounded t x v
-the-value-is-exact {t} {x} {v} p a =
+pub the-value-is-exact : {t : Table} {x v : ℤ} → UnitWithin (t .s) → PointsWithin (t .knots) (t .values) → ValueAt t x v → ExactRounded t x v
+the-value-is-exact {t} {x} {v} u p a =
     record {
       piece = a .piece;
       belongs = a .belongs;
-      nearest = to-exact _ _ _ _ _ _ _ (subst (Nearest _ _) (sym (less v (entry (t .values) (a .piece)) (risenOn t (a .piece) x) (a .is))) (nearest-of _ (positive (p .widths (a .piece) (within-list (a .belongs))))));
+      nearest = to-exact _ _ _ _ _ _ _ _ (subst (Nearest _ _) (sym (less v (entry (t .values) (a .piece)) (risenOn t (a .piece) x) (a .is))) (nearest-of _ (positive u (p .widths (a .piece) (within-list (a .belongs))))));
     }
   where
     less : (v l r : ℤ) → v ≡ l +ℤ r → v -ℤ l ≡ r
     less v l r = lin (v ∷ l ∷ r ∷ []) (search says depth 30 fits 9000) (omega arith)
 
-pub the-exact-is-the-value : {t : Table} {x v : ℤ} → PointsWithin (t .knots) (t .values) → ExactRounded t x v → ValueAt t x v
-the-exact-is-the-value {t} {x} {v} p e =
-    let d₀ = positive (p .widths (e .piece) (within-list (e .belongs))) in
+pub the-exact-is-the-value : {t : Table} {x v : ℤ} → UnitWithin (t .s) → PointsWithin (t .knots) (t .values) → ExactRounded t x v → ValueAt t x v
+the-exact-is-the-value {t} {x} {v} u p e =
+    let d₀ = positive u (p .widths (e .piece) (within-list (e .belongs))) in
     record {
       piece = e .piece;
       belongs = e .belongs;
-      is = more v (entry (t .values) (e .piece)) (risenOn t (e .piece) x) (nearest-unique d₀ (from-exact _ _ _ _ _ _ _ d₀ (e .nearest)) (nearest-of _ d₀));
+      is = more v (entry (t .values) (e .piece)) (risenOn t (e .piece) x) (nearest-unique d₀ (from-exact _ _ _ _ _ _ _ _ d₀ (e .nearest)) (nearest-of _ d₀));
     }
   where
     more : (v l r : ℤ) → v -ℤ l ≡ r → v ≡ l +ℤ r

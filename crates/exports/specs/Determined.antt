@@ -28,7 +28,7 @@ judgement number place verdict = record { refusal = record { number = number; pl
 abbrev numbered : Ruling → Judgement
 numbered (ruling number place w) = judgement number place (verdictNumber w)
 
-pub one-judgement : {h z m n : ℤ} {a b p q u v : ℕ} → JudgedAs h z m n a p u → JudgedAs h z m n b q v → judgement a p u ≡ judgement b q v
+pub one-judgement : {s : ℕ} {h z m n : ℤ} {a b p q u v : ℕ} → JudgedAs s h z m n a p u → JudgedAs s h z m n b q v → judgement a p u ≡ judgement b q v
 one-judgement (judged f) (judged g) = ap numbered (one-ruling f g)
 
 -- ---- what the drive is told: two cases that differ cannot both be

@@ -1,9 +1,10 @@
 -- "Figures to hold against it" of the exact rules, as request 2 of document 02 amends them, as far as they speak of built slopes: the definitions that `build` promises give them.
 use mathlib.Core.Path.{_≡_, refl}
 use mathlib.Core.List.{[], _∷_}
+use Prim.Native.Nat.{ℕ}
 use native.Mathlib.Omega.{arith}
 use lib.IntN.{ℤ, pos, negsuc}
-use Rattle.rules.specs.Limits.{unit}
+use Rattle.rules.specs.Limits.{unit, UnitWithin}
 use Rattle.rules.specs.Refusals.{Given, refused, passed}
 use Rattle.table.specs.Table.{table, Holds, width-outside, buildOrder}
 use Rattle.table.specs.Accepted.{unit-passes, same-length-passes, count-passes}
@@ -66,10 +67,10 @@ both-ends-of-four = refl
 
 -- ---- two counts at opposite ends of 32 bits
 
--- "Knots 2147483647, −2147483648: refused by 3 at place 0", whatever the two values and slopes
-pub ends-of-32-bits-are-refused : (v w m n : ℤ) → Given (Holds (table 8 (pos 2147483647 ∷ negsuc 2147483647 ∷ []) (v ∷ w ∷ []) (m ∷ n ∷ []))) buildOrder 3 0
-ends-of-32-bits-are-refused v w m n =
-    passed (unit-passes (record { high = omega arith }))
+-- "Knots 2147483647, −2147483648: refused by 3 at place 0", whatever the unit, the two values and the slopes
+pub ends-of-32-bits-are-refused : {s : ℕ} → UnitWithin s → (v w m n : ℤ) → Given (Holds (table s (pos 2147483647 ∷ negsuc 2147483647 ∷ []) (v ∷ w ∷ []) (m ∷ n ∷ []))) buildOrder 3 0
+ends-of-32-bits-are-refused u v w m n =
+    passed (unit-passes u)
     (passed (same-length-passes (record { values = refl; slopes = refl }))
     (passed (count-passes (record { low = omega arith; high = omega arith }))
     (refused (width-outside {i = 0} (omega arith) (λ w. w .low .le)) (λ _ l _. absurd (omega (arith, l))))))

@@ -31,7 +31,7 @@ enum-known-answer-2 c = search needs
 said : (c : tie.After-float-answer)
     → let s = c .before .args in
     let r = c .float-answer .result in
-    Driving (table (s .knots .now) (s .values .now) (s .slopes .now)) (s .position) (r .refusal .number) (r .refusal .place) (toldOf (r .answer))
+    Driving (table (s .s) (s .knots .now) (s .values .now) (s .slopes .now)) (s .position) (r .refusal .number) (r .refusal .place) (toldOf (r .answer))
 said c = rw (toZ-ofZ (c .before .fits .position)) at (c .float-answer .ensures)
 
 returns : tie.Need-returns

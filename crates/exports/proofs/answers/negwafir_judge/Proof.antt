@@ -25,7 +25,7 @@ enum-known-refusal : tie.Need-enum-known-refusal
 enum-known-refusal c = search needs
 
 -- what `judge` says of its arguments as the code has them holds of the numbers themselves
-said : (c : tie.After-judge) → let s = c .before .args in Judged (s .h) (s .z) (s .m) (s .n) (rulingOf (c .judge .result))
+said : (c : tie.After-judge) → let s = c .before .args in Judged (s .s) (s .h) (s .z) (s .m) (s .n) (rulingOf (c .judge .result))
 said c = let s = c .before .fits in rw (toZ-ofZ (s .h), toZ-ofZ (s .z), toZ-ofZ (s .m), toZ-ofZ (s .n)) at (c .judge .ensures)
 
 returns : tie.Need-returns
