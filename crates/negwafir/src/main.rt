@@ -14,11 +14,12 @@ pub struct Input {
     pub open: bool,
 }
 
-// How many numbers each list holds, and whether what was to be answered could be written.
+// How many numbers each list holds, the slope unit, and whether what was to be answered could be written.
 pub struct Kept {
     pub knots: usize,
     pub values: usize,
     pub slopes: usize,
+    pub unit: u32,
     pub written: bool,
 }
 
