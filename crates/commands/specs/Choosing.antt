@@ -39,7 +39,7 @@ abbrev pub NoneOf : ℕ → ℕ → Type 0
 NoneOf zero n = Unit
 NoneOf (suc k) n = NoneOf k n × (n ≡ k → ⊥)
 
-pub not-below : (k n : ℕ) → NoneOf k n → k ≤ n
+not-below : (k n : ℕ) → NoneOf k n → k ≤ n
 not-below zero n h = omega arith
 not-below (suc k) n h = let least = not-below k n (h .0) in let other = h .1 in omega arith
 

@@ -3,7 +3,7 @@ use Prim.Native.Nat.{ℕ, suc, _-_}
 use mathlib.Core.Bool.{Bool, true, false, cond, _&&_}
 use mathlib.Core.List.{List, [], _∷_}
 use lib.Dec.{ltb, leb, eqb}
-use lib.IntN.{ℤ, pos}
+use lib.IntN.{ℤ, pos, negsuc}
 use lib.ListN.{length, getD}
 use Rattle.words.specs.Words.{wordsOf}
 use Rattle.decimals.specs.declared.reading.Number
@@ -11,9 +11,9 @@ use Rattle.decimals.specs.declared.reading.Number32
 use Rattle.decimals.specs.Decimal.{numberOf, number32Of}
 use Rattle.commands.specs.declared.List as Lists
 use Rattle.commands.specs.declared.List.the-variants.{Knots, Values, Slopes}
-use Rattle.commands.specs.declared.Fault.the-variants.{TooLong, NoCommand, TooFew, TooMany, NoList, NotDecimal, Beyond32, Beyond64}
+use Rattle.commands.specs.declared.Fault.the-variants.{TooLong, NoCommand, TooFew, TooMany, NoList, NotDecimal, Beyond32, Beyond64, BeyondUnsigned}
 use Rattle.commands.specs.declared.Command.{Command}
-use Rattle.commands.specs.declared.Command.the-variants.{Nothing, Wrong, Set, Show, Piece, Build, Check, At, Drive, Change}
+use Rattle.commands.specs.declared.Command.the-variants.{Nothing, Wrong, Set, Show, Piece, Build, Check, At, Drive, Change, SetUnit, ShowUnit}
 use Rattle.commands.specs.declared.Finding.{Finding}
 use Rattle.commands.specs.declared.Finding.the-variants.{Clear, Faulty}
 
@@ -126,6 +126,10 @@ drive = 100 ∷ 114 ∷ 105 ∷ 118 ∷ 101 ∷ []
 abbrev change : List ℕ
 change = 99 ∷ 104 ∷ 97 ∷ 110 ∷ 103 ∷ 101 ∷ []
 
+-- `unit`
+abbrev unit : List ℕ
+unit = 117 ∷ 110 ∷ 105 ∷ 116 ∷ []
+
 -- two words are the same
 unfoldable pub same : List ℕ → List ℕ → Bool
 same [] [] = true
@@ -144,12 +148,12 @@ chosen (entry ∷ entries) otherwise word = cond (same word (entry .0)) (entry .
 abbrev pub setOf : Lists.List → List (List ℕ) → Command
 setOf list words = unless (isList words) (Set list)
 
--- `show LIST`
-abbrev pub listTable : List (List ℕ × Command)
-listTable = (knots, Show Knots) ∷ (values, Show Values) ∷ (slopes, Show Slopes) ∷ []
+-- `show LIST` and `show unit`
+abbrev pub shownTable : List (List ℕ × Command)
+shownTable = (knots, Show Knots) ∷ (values, Show Values) ∷ (slopes, Show Slopes) ∷ (unit, ShowUnit) ∷ []
 
 abbrev pub shownOf : List ℕ → Command
-shownOf name = chosen listTable (Wrong NoList) name
+shownOf name = chosen shownTable (Wrong NoList) name
 
 abbrev pub showOf : List (List ℕ) → Command
 showOf words = unless (counted 1 words) (shownOf (wordAt 1 words))
@@ -174,6 +178,21 @@ driveOf words = unless (numbers 1 0 words) (Drive (narrow 1 words))
 abbrev pub changeOf : List (List ℕ) → Command
 changeOf words = unless (numbers 3 1 words) (Change (record { number = wide 1 words; knot = narrow 2 words; value = narrow 3 words }))
 
+-- the slope unit, which a line may set to any number from 0 to 2³² − 1
+abbrev pub unitIs : ℤ → Command
+unitIs (pos n) = cond (leb n 4294967295) (SetUnit n) (Wrong (BeyondUnsigned 1))
+unitIs (negsuc n) = Wrong (BeyondUnsigned 1)
+
+-- what a word says as the unit
+abbrev pub unitSaid : Number.Number → Command
+unitSaid (Number.the-variants.Is n) = unitIs n
+unitSaid Number.the-variants.NotDecimal = Wrong (NotDecimal 1)
+unitSaid Number.the-variants.TooLarge = Wrong (BeyondUnsigned 1)
+
+-- `unit S`
+abbrev pub unitOf : List (List ℕ) → Command
+unitOf words = unless (counted 1 words) (unitSaid (numberOf (wordAt 1 words)))
+
 -- ---- the line
 
 -- every name, and what the words after it ask for
@@ -189,6 +208,7 @@ commandTable words =
     ∷ (at, atOf words)
     ∷ (drive, driveOf words)
     ∷ (change, changeOf words)
+    ∷ (unit, unitOf words)
     ∷ []
 
 abbrev pub asked : List ℕ → List (List ℕ) → Command

@@ -10,8 +10,8 @@ use lib.ListN.{length, replicate, length-replicate}
 use Rattle.words.specs.Words.{isSeparator, wordsAfter, wordsOf}
 use Rattle.decimals.specs.Decimal.{areDigits, natural}
 use Rattle.commands.specs.declared.List.the-variants.{Knots, Values, Slopes}
-use Rattle.commands.specs.declared.Fault.the-variants.{TooLong, NoCommand, TooFew, TooMany, NoList, NotDecimal, Beyond32, Beyond64}
-use Rattle.commands.specs.declared.Command.the-variants.{Nothing, Wrong, Set, Show, Piece, Build, Check, At, Drive, Change}
+use Rattle.commands.specs.declared.Fault.the-variants.{TooLong, NoCommand, TooFew, TooMany, NoList, NotDecimal, Beyond32, Beyond64, BeyondUnsigned}
+use Rattle.commands.specs.declared.Command.the-variants.{Nothing, Wrong, Set, Show, Piece, Build, Check, At, Drive, Change, SetUnit, ShowUnit}
 use Rattle.commands.specs.declared.Finding.the-variants.{Clear}
 use Rattle.commands.specs.Commands.{counted, orElse, isNumber, firstFault, numbers, wide, narrow, isList, unless, same, chosen, byWords, commandOf}
 
@@ -143,6 +143,58 @@ change = 99 ∷ 104 ∷ 97 ∷ 110 ∷ 103 ∷ 101 ∷ 32 ∷ 45 ∷ 49 ∷ 32 �
 abbrev pub change-large : List ℕ
 change-large = 99 ∷ 104 ∷ 97 ∷ 110 ∷ 103 ∷ 101 ∷ 32 ∷ 50 ∷ 49 ∷ 52 ∷ 55 ∷ 52 ∷ 56 ∷ 51 ∷ 54 ∷ 52 ∷ 56 ∷ 32 ∷ 50 ∷ 49 ∷ 52 ∷ 55 ∷ 52 ∷ 56 ∷ 51 ∷ 54 ∷ 52 ∷ 56 ∷ 32 ∷ 48 ∷ []
 
+-- `show unit`
+abbrev pub show-unit : List ℕ
+show-unit = 115 ∷ 104 ∷ 111 ∷ 119 ∷ 32 ∷ 117 ∷ 110 ∷ 105 ∷ 116 ∷ []
+
+-- `show units`
+abbrev pub show-units : List ℕ
+show-units = 115 ∷ 104 ∷ 111 ∷ 119 ∷ 32 ∷ 117 ∷ 110 ∷ 105 ∷ 116 ∷ 115 ∷ []
+
+-- `unit 4294967295`
+abbrev pub unit-most : List ℕ
+unit-most = 117 ∷ 110 ∷ 105 ∷ 116 ∷ 32 ∷ 52 ∷ 50 ∷ 57 ∷ 52 ∷ 57 ∷ 54 ∷ 55 ∷ 50 ∷ 57 ∷ 53 ∷ []
+
+-- `unit -0`
+abbrev pub unit-minus-0 : List ℕ
+unit-minus-0 = 117 ∷ 110 ∷ 105 ∷ 116 ∷ 32 ∷ 45 ∷ 48 ∷ []
+
+-- `unit 9`
+abbrev pub unit-nine : List ℕ
+unit-nine = 117 ∷ 110 ∷ 105 ∷ 116 ∷ 32 ∷ 57 ∷ []
+
+-- `unit 4294967296`
+abbrev pub unit-large : List ℕ
+unit-large = 117 ∷ 110 ∷ 105 ∷ 116 ∷ 32 ∷ 52 ∷ 50 ∷ 57 ∷ 52 ∷ 57 ∷ 54 ∷ 55 ∷ 50 ∷ 57 ∷ 54 ∷ []
+
+-- `unit 9223372036854775808`
+abbrev pub unit-huge : List ℕ
+unit-huge = 117 ∷ 110 ∷ 105 ∷ 116 ∷ 32 ∷ 57 ∷ 50 ∷ 50 ∷ 51 ∷ 51 ∷ 55 ∷ 50 ∷ 48 ∷ 51 ∷ 54 ∷ 56 ∷ 53 ∷ 52 ∷ 55 ∷ 55 ∷ 53 ∷ 56 ∷ 48 ∷ 56 ∷ []
+
+-- `unit -1`
+abbrev pub unit-negative : List ℕ
+unit-negative = 117 ∷ 110 ∷ 105 ∷ 116 ∷ 32 ∷ 45 ∷ 49 ∷ []
+
+-- `unit x`
+abbrev pub unit-letter : List ℕ
+unit-letter = 117 ∷ 110 ∷ 105 ∷ 116 ∷ 32 ∷ 120 ∷ []
+
+-- `unit`
+abbrev pub unit-alone : List ℕ
+unit-alone = 117 ∷ 110 ∷ 105 ∷ 116 ∷ []
+
+-- `unit 1 2`
+abbrev pub unit-two : List ℕ
+unit-two = 117 ∷ 110 ∷ 105 ∷ 116 ∷ 32 ∷ 49 ∷ 32 ∷ 50 ∷ []
+
+-- `units 1`
+abbrev pub units : List ℕ
+units = 117 ∷ 110 ∷ 105 ∷ 116 ∷ 115 ∷ 32 ∷ 49 ∷ []
+
+-- `Unit 1`
+abbrev pub capital-unit : List ℕ
+capital-unit = 85 ∷ 110 ∷ 105 ∷ 116 ∷ 32 ∷ 49 ∷ []
+
 pub record Worked : Type 0 where
   pub empty-asks : commandOf empty ≡ Nothing
   pub comment-asks : commandOf comment ≡ Nothing
@@ -176,6 +228,19 @@ pub record Worked : Type 0 where
   pub piece-slopes-asks : commandOf piece-slopes ≡ Wrong (Beyond32 4)
   pub change-asks : commandOf change ≡ Change (record { number = negsuc 0; knot = pos 2; value = pos 3 })
   pub change-large-asks : commandOf change-large ≡ Wrong (Beyond32 2)
+  pub show-unit-asks : commandOf show-unit ≡ ShowUnit
+  pub show-units-asks : commandOf show-units ≡ Wrong NoList
+  pub unit-most-asks : commandOf unit-most ≡ SetUnit 4294967295
+  pub unit-minus-0-asks : commandOf unit-minus-0 ≡ SetUnit 0
+  pub unit-nine-asks : commandOf unit-nine ≡ SetUnit 9
+  pub unit-large-asks : commandOf unit-large ≡ Wrong (BeyondUnsigned 1)
+  pub unit-huge-asks : commandOf unit-huge ≡ Wrong (BeyondUnsigned 1)
+  pub unit-negative-asks : commandOf unit-negative ≡ Wrong (BeyondUnsigned 1)
+  pub unit-letter-asks : commandOf unit-letter ≡ Wrong (NotDecimal 1)
+  pub unit-alone-asks : commandOf unit-alone ≡ Wrong TooFew
+  pub unit-two-asks : commandOf unit-two ≡ Wrong TooMany
+  pub units-asks : commandOf units ≡ Wrong NoCommand
+  pub capital-unit-asks : commandOf capital-unit ≡ Wrong NoCommand
 
 pub worked : Worked
 unfolding wordsAfter areDigits natural counted orElse isNumber firstFault numbers wide narrow isList unless same chosen
@@ -213,6 +278,19 @@ worked =
       piece-slopes-asks = refl;
       change-asks = refl;
       change-large-asks = refl;
+      show-unit-asks = refl;
+      show-units-asks = refl;
+      unit-most-asks = refl;
+      unit-minus-0-asks = refl;
+      unit-nine-asks = refl;
+      unit-large-asks = refl;
+      unit-huge-asks = refl;
+      unit-negative-asks = refl;
+      unit-letter-asks = refl;
+      unit-alone-asks = refl;
+      unit-two-asks = refl;
+      units-asks = refl;
+      capital-unit-asks = refl;
     }
 
 -- ---- lines that are too large to be written out

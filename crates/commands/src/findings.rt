@@ -2,7 +2,7 @@
 ghost use mathlib.Core.Path.{_≡_};
 ghost use lib.ListN.{drop};
 ghost use Rattle.words.specs.Words.{wordsOf};
-ghost use Rattle.commands.specs.Commands.{isNumber, firstFault, numbers, unless};
+ghost use Rattle.commands.specs.Commands.{counted, isNumber, firstFault, numbers, unless};
 use crate::Command;
 use crate::Fault;
 use crate::Finding;
@@ -41,9 +41,9 @@ pub(crate) fn first_fault(line: &[u8], from: usize, wides: usize) -> Finding
     Finding::Clear
 }
 
-// Whether there are just n words, all of them numbers, of which the first `wides` have 64 bits and the others 32.
-pub(crate) fn are_numbers(line: &[u8], from: usize, n: usize, wides: usize) -> Finding
-    ensures { λ r. ⌜ r ≡ numbers n wides (wordsOf (drop from (now (line .entry)))) ⌝ }
+// Whether there are just n words.
+pub(crate) fn are_words(line: &[u8], from: usize, n: usize) -> Finding
+    ensures { λ r. ⌜ r ≡ counted n (wordsOf (drop from (now (line .entry)))) ⌝ }
 {
     let found = words::count(line, from);
     if found < n {
@@ -52,7 +52,17 @@ pub(crate) fn are_numbers(line: &[u8], from: usize, n: usize, wides: usize) -> F
     if n < found {
         return Finding::Faulty(Fault::TooMany);
     }
-    first_fault(line, from, wides)
+    Finding::Clear
+}
+
+// Whether there are just n words, all of them numbers, of which the first `wides` have 64 bits and the others 32.
+pub(crate) fn are_numbers(line: &[u8], from: usize, n: usize, wides: usize) -> Finding
+    ensures { λ r. ⌜ r ≡ numbers n wides (wordsOf (drop from (now (line .entry)))) ⌝ }
+{
+    match are_words(line, from, n) {
+        Finding::Clear => first_fault(line, from, wides),
+        Finding::Faulty(fault) => Finding::Faulty(fault),
+    }
 }
 
 // The command, unless a fault was found.

@@ -28,7 +28,7 @@ pub struct Point {
     pub value: i32,
 }
 
-// What is wrong with a line. A number is named by its place among the words after the command, from 1.
+// What is wrong with a line. A number is named by its place among the words after the command, from 1. `BeyondUnsigned`: it is not in 0 to 4294967295.
 pub enum Fault {
     TooLong,
     NoCommand,
@@ -38,9 +38,10 @@ pub enum Fault {
     NotDecimal(usize),
     Beyond32(usize),
     Beyond64(usize),
+    BeyondUnsigned(usize),
 }
 
-// A line without a command asks for nothing.
+// A line without a command asks for nothing. A line may set the slope unit to any number of 32 bits without a sign: only a table refuses one.
 pub enum Command {
     Nothing,
     Wrong(Fault),
@@ -52,6 +53,8 @@ pub enum Command {
     At(i32),
     Drive(i32),
     Change(Point),
+    SetUnit(u32),
+    ShowUnit,
 }
 
 // What is found where the words of a command are looked at.

@@ -2,13 +2,14 @@
 ghost use mathlib.Core.Path.{_≡_};
 ghost use lib.ListN.{drop};
 ghost use Rattle.words.specs.Words.{wordsOf, partOf};
-ghost use Rattle.commands.specs.Commands.{isComment, setOf, shownOf, showOf, pieceOf, aloneOf, atOf, driveOf, changeOf, asked, commandOf};
+ghost use Rattle.commands.specs.Commands.{isComment, setOf, shownOf, showOf, pieceOf, aloneOf, atOf, driveOf, changeOf, unitIs, unitSaid, unitOf, asked, commandOf};
 use crate::Command;
 use crate::Fault;
 use crate::List;
 use crate::Piece;
 use crate::Point;
 use crate::findings::are_numbers;
+use crate::findings::are_words;
 use crate::findings::first_fault;
 use crate::findings::unless_faulty;
 use crate::naming::place;
@@ -18,6 +19,9 @@ use crate::numbers::word_at;
 
 // The longest line that is answered, without its ending.
 const LONGEST: usize = 65536;
+
+// The largest number of 32 bits without a sign.
+const MOST: i64 = 4294967295;
 
 // What a line, without its ending, asks for.
 pub fn parse(line: &[u8]) -> Command
@@ -51,7 +55,7 @@ fn named(line: &[u8], start: usize, end: usize) -> Command
     let name = words::part(line, start, end);
     match place(
         name,
-        b"knots values slopes show piece build check at drive change",
+        b"knots values slopes show piece build check at drive change unit",
     ) {
         0 => set(line, end, List::Knots),
         1 => set(line, end, List::Values),
@@ -63,6 +67,7 @@ fn named(line: &[u8], start: usize, end: usize) -> Command
         7 => at(line, end),
         8 => drive(line, end),
         9 => change(line, end),
+        10 => unit(line, end),
         _ => Command::Wrong(Fault::NoCommand),
     }
 }
@@ -77,24 +82,21 @@ fn set(line: &[u8], from: usize, list: List) -> Command
     unless_faulty(first_fault(line, from, 0), Command::Set(list))
 }
 
-// `show LIST`.
+// `show LIST` and `show unit`.
 fn show(line: &[u8], from: usize) -> Command
     ensures { λ r. ⌜ r ≡ showOf (wordsOf (drop from (now (line .entry)))) ⌝ }
 {
-    match words::count(line, from) {
-        0 => Command::Wrong(Fault::TooFew),
-        1 => shown(word_at(line, from, 1)),
-        _ => Command::Wrong(Fault::TooMany),
-    }
+    unless_faulty(are_words(line, from, 1), shown(word_at(line, from, 1)))
 }
 
 fn shown(name: &[u8]) -> Command
     ensures { λ r. ⌜ r ≡ shownOf (now (name .entry)) ⌝ }
 {
-    match place(name, b"knots values slopes") {
+    match place(name, b"knots values slopes unit") {
         0 => Command::Show(List::Knots),
         1 => Command::Show(List::Values),
         2 => Command::Show(List::Slopes),
+        3 => Command::ShowUnit,
         _ => Command::Wrong(Fault::NoList),
     }
 }
@@ -116,10 +118,7 @@ fn piece(line: &[u8], from: usize) -> Command
 fn alone(line: &[u8], from: usize, command: Command) -> Command
     ensures { λ r. ⌜ r ≡ aloneOf command (wordsOf (drop from (now (line .entry)))) ⌝ }
 {
-    match words::count(line, from) {
-        0 => command,
-        _ => Command::Wrong(Fault::TooMany),
-    }
+    unless_faulty(are_words(line, from, 0), command)
 }
 
 // `at X`.
@@ -152,4 +151,36 @@ fn change(line: &[u8], from: usize) -> Command
         value: narrow_at(line, from, 3),
     };
     unless_faulty(are_numbers(line, from, 3, 1), Command::Change(point))
+}
+
+// `unit S`.
+fn unit(line: &[u8], from: usize) -> Command
+    ensures { λ r. ⌜ r ≡ unitOf (wordsOf (drop from (now (line .entry)))) ⌝ }
+{
+    let said = decimals::whole(word_at(line, from, 1));
+    unless_faulty(are_words(line, from, 1), unit_said(said))
+}
+
+// The unit by what its word says.
+fn unit_said(said: decimals::Number) -> Command
+    ensures { λ r. ⌜ r ≡ unitSaid said ⌝ }
+{
+    match said {
+        decimals::Number::Is(n) => unit_is(n),
+        decimals::Number::NotDecimal => Command::Wrong(Fault::NotDecimal(1)),
+        decimals::Number::TooLarge => Command::Wrong(Fault::BeyondUnsigned(1)),
+    }
+}
+
+// The unit n, unless it is beyond 32 bits without a sign.
+fn unit_is(n: i64) -> Command
+    ensures { λ r. ⌜ r ≡ unitIs n ⌝ }
+{
+    if n < 0 {
+        return Command::Wrong(Fault::BeyondUnsigned(1));
+    }
+    if MOST < n {
+        return Command::Wrong(Fault::BeyondUnsigned(1));
+    }
+    Command::SetUnit(n as u32)
 }

@@ -9,9 +9,9 @@ use lib.ListN.{length, replicate}
 use Rattle.commands.specs.declared.List as Lists
 use Rattle.commands.specs.declared.List.the-variants.{Knots, Values, Slopes}
 use Rattle.commands.specs.declared.Fault.{Fault}
-use Rattle.commands.specs.declared.Fault.the-variants.{TooLong, NoCommand, TooFew, TooMany, NoList, NotDecimal, Beyond32, Beyond64}
+use Rattle.commands.specs.declared.Fault.the-variants.{TooLong, NoCommand, TooFew, TooMany, NoList, NotDecimal, Beyond32, Beyond64, BeyondUnsigned}
 use Rattle.commands.specs.declared.Command.{Command}
-use Rattle.commands.specs.declared.Command.the-variants.{Nothing, Wrong, Set, Show, Piece, Build, Check, At, Drive, Change}
+use Rattle.commands.specs.declared.Command.the-variants.{Nothing, Wrong, Set, Show, Piece, Build, Check, At, Drive, Change, SetUnit, ShowUnit}
 use Rattle.commands.specs.Examples as lines
 use Rattle.commands.specs.Examples.{worked, too-long, spaces, knots-and, too-many, full-list}
 use Rattle.demands.specs.InstancesBelow.{bytes}
@@ -36,6 +36,7 @@ fault NoList = pos 4 ∷ []
 fault (NotDecimal k) = pos 5 ∷ pos k ∷ []
 fault (Beyond32 k) = pos 6 ∷ pos k ∷ []
 fault (Beyond64 k) = pos 7 ∷ pos k ∷ []
+fault (BeyondUnsigned k) = pos 8 ∷ pos k ∷ []
 
 abbrev answer : Command → List ℤ
 answer Nothing = []
@@ -48,6 +49,8 @@ answer Check = pos 5 ∷ []
 answer (At x) = pos 6 ∷ x ∷ []
 answer (Drive x) = pos 7 ∷ x ∷ []
 answer (Change p) = pos 8 ∷ p .number ∷ p .knot ∷ p .value ∷ []
+answer (SetUnit s) = pos 9 ∷ pos s ∷ []
+answer ShowUnit = pos 10 ∷ []
 
 -- ---- each command, and each fault of its line
 
@@ -262,6 +265,116 @@ point-of-32-bits p = lists-differ tt (ap answer (p ∙ worked .change-large-asks
 -- and a knot has 32
 pub knot-of-64-bits : parse lines.change-large (Change (record { number = pos 2147483648; knot = pos 2147483648; value = pos 0 })) → ⊥
 knot-of-64-bits p = lists-differ tt (ap answer (p ∙ worked .change-large-asks))
+
+-- ---- the slope unit
+
+-- `unit -1` is no unit, and 0 is not put in
+pub negative-unit-taken-for-0 : parse lines.unit-negative (SetUnit 0) → ⊥
+negative-unit-taken-for-0 p = lists-differ tt (ap answer (p ∙ worked .unit-negative-asks))
+
+-- nor its size
+pub unit-without-its-sign : parse lines.unit-negative (SetUnit 1) → ⊥
+unit-without-its-sign p = lists-differ tt (ap answer (p ∙ worked .unit-negative-asks))
+
+-- and it is not wrapped
+pub negative-unit-wrapped : parse lines.unit-negative (SetUnit 4294967295) → ⊥
+negative-unit-wrapped p = lists-differ tt (ap answer (p ∙ worked .unit-negative-asks))
+
+-- it is a number
+pub negative-unit-called-no-number : parse lines.unit-negative (Wrong (NotDecimal 1)) → ⊥
+negative-unit-called-no-number p = lists-differ tt (ap answer (p ∙ worked .unit-negative-asks))
+
+-- `unit -0` is `unit 0`
+pub unit-refused-for-its-minus : parse lines.unit-minus-0 (Wrong (BeyondUnsigned 1)) → ⊥
+unit-refused-for-its-minus p = lists-differ tt (ap answer (p ∙ worked .unit-minus-0-asks))
+
+-- `unit 9` is a unit: only a table can refuse it
+pub unit-above-8-called-wrong : parse lines.unit-nine (Wrong (BeyondUnsigned 1)) → ⊥
+unit-above-8-called-wrong p = lists-differ tt (ap answer (p ∙ worked .unit-nine-asks))
+
+-- and it is not cut to 8
+pub unit-above-8-taken-for-8 : parse lines.unit-nine (SetUnit 8) → ⊥
+unit-above-8-taken-for-8 p = lists-differ tt (ap answer (p ∙ worked .unit-nine-asks))
+
+-- 2³² − 1 is a unit
+pub unit-of-31-bits : parse lines.unit-most (Wrong (BeyondUnsigned 1)) → ⊥
+unit-of-31-bits p = lists-differ tt (ap answer (p ∙ worked .unit-most-asks))
+
+-- whose 32 bits have no sign
+pub unit-of-signed-32-bits : parse lines.unit-most (Wrong (Beyond32 1)) → ⊥
+unit-of-signed-32-bits p = lists-differ tt (ap answer (p ∙ worked .unit-most-asks))
+
+-- 2³² is none, and is not wrapped
+pub unit-wrapped : parse lines.unit-large (SetUnit 0) → ⊥
+unit-wrapped p = lists-differ tt (ap answer (p ∙ worked .unit-large-asks))
+
+-- nor cut to the largest
+pub unit-cut-to-the-largest : parse lines.unit-large (SetUnit 4294967295) → ⊥
+unit-cut-to-the-largest p = lists-differ tt (ap answer (p ∙ worked .unit-large-asks))
+
+-- it is told with its limits, and not as a number with a sign
+pub beyond-unsigned-called-beyond-32 : parse lines.unit-large (Wrong (Beyond32 1)) → ⊥
+beyond-unsigned-called-beyond-32 p = lists-differ tt (ap answer (p ∙ worked .unit-large-asks))
+
+-- and it is number 1
+pub unit-counted-from-0 : parse lines.unit-large (Wrong (BeyondUnsigned 0)) → ⊥
+unit-counted-from-0 p = lists-differ tt (ap answer (p ∙ worked .unit-large-asks))
+
+-- nor is 2⁶³ told otherwise
+pub beyond-unsigned-called-beyond-64 : parse lines.unit-huge (Wrong (Beyond64 1)) → ⊥
+beyond-unsigned-called-beyond-64 p = lists-differ tt (ap answer (p ∙ worked .unit-huge-asks))
+
+-- `unit x` has no number, and not one beyond the limits
+pub no-number-called-beyond-unsigned : parse lines.unit-letter (Wrong (BeyondUnsigned 1)) → ⊥
+no-number-called-beyond-unsigned p = lists-differ tt (ap answer (p ∙ worked .unit-letter-asks))
+
+-- and 0 is not put in
+pub no-unit-taken-for-0 : parse lines.unit-letter (SetUnit 0) → ⊥
+no-unit-taken-for-0 p = lists-differ tt (ap answer (p ∙ worked .unit-letter-asks))
+
+-- `unit` has too few words, and 0 is not put in
+pub missing-unit-taken-for-0 : parse lines.unit-alone (SetUnit 0) → ⊥
+missing-unit-taken-for-0 p = lists-differ tt (ap answer (p ∙ worked .unit-alone-asks))
+
+-- nor 8, which is the unit at first
+pub missing-unit-taken-for-8 : parse lines.unit-alone (SetUnit 8) → ⊥
+missing-unit-taken-for-8 p = lists-differ tt (ap answer (p ∙ worked .unit-alone-asks))
+
+-- and it is not `show unit`
+pub unit-taken-for-show-unit : parse lines.unit-alone ShowUnit → ⊥
+unit-taken-for-show-unit p = lists-differ tt (ap answer (p ∙ worked .unit-alone-asks))
+
+-- `unit 1 2` has a word too many: the first is not taken
+pub first-of-two-units-taken : parse lines.unit-two (SetUnit 1) → ⊥
+first-of-two-units-taken p = lists-differ tt (ap answer (p ∙ worked .unit-two-asks))
+
+-- nor the last
+pub last-of-two-units-taken : parse lines.unit-two (SetUnit 2) → ⊥
+last-of-two-units-taken p = lists-differ tt (ap answer (p ∙ worked .unit-two-asks))
+
+-- `units` is no command
+pub units-taken-for-unit : parse lines.units (SetUnit 1) → ⊥
+units-taken-for-unit p = lists-differ tt (ap answer (p ∙ worked .units-asks))
+
+-- nor is `Unit`
+pub capital-taken-for-unit : parse lines.capital-unit (SetUnit 1) → ⊥
+capital-taken-for-unit p = lists-differ tt (ap answer (p ∙ worked .capital-unit-asks))
+
+-- `show unit` shows no list
+pub show-unit-taken-for-a-list : parse lines.show-unit (Show Slopes) → ⊥
+show-unit-taken-for-a-list p = lists-differ tt (ap answer (p ∙ worked .show-unit-asks))
+
+-- and it does not fail for want of one
+pub unit-called-no-list : parse lines.show-unit (Wrong NoList) → ⊥
+unit-called-no-list p = lists-differ tt (ap answer (p ∙ worked .show-unit-asks))
+
+-- nor does it set the unit
+pub show-unit-taken-for-unit : parse lines.show-unit (SetUnit 8) → ⊥
+show-unit-taken-for-unit p = lists-differ tt (ap answer (p ∙ worked .show-unit-asks))
+
+-- `show units` names neither the unit nor a list
+pub units-shown : parse lines.show-units ShowUnit → ⊥
+units-shown p = lists-differ tt (ap answer (p ∙ worked .show-units-asks))
 
 -- ---- lines that are too large to be written out
 

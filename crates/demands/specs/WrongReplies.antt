@@ -8,12 +8,12 @@ use lib.Ieee.{Float, fin}
 use lib.ListN.{length}
 use Rattle.decimals.specs.Text.{spelled}
 use Rattle.answers.specs.Filling.{filled}
-use Rattle.commands.specs.declared.Fault.the-variants.{TooLong, NoCommand, TooFew, TooMany, NoList, NotDecimal, Beyond32, Beyond64}
+use Rattle.commands.specs.declared.Fault.the-variants.{TooLong, NoCommand, TooFew, TooMany, NoList, NotDecimal, Beyond32, Beyond64, BeyondUnsigned}
 use Rattle.rules.specs.declared.Refusal.{Refusal}
 use Rattle.piece.specs.declared.Verdict.the-variants.{Rising, Falling, Flat, Bends, Refused}
 use Rattle.drive.specs.declared.Answer.the-variants.{Dwell, Move}
 use Rattle.replies.specs.declared.Reply.{Reply}
-use Rattle.replies.specs.declared.Reply.the-variants.{Silent, Wrong, Done, Count, Judged, Valued, Driven}
+use Rattle.replies.specs.declared.Reply.the-variants.{Silent, Wrong, Done, Count, Judged, Valued, Driven, SlopeUnit}
 use Rattle.replies.specs.Floats.{floatAs}
 use Rattle.replies.specs.Replies.{faultLine, lineOf}
 use Rattle.demands.specs.InstancesBelow.{bytes}
@@ -120,6 +120,51 @@ pub fault-told-as-a-refusal : writes (Wrong 1 TooFew) (114 ∷ 101 ∷ 102 ∷ 1
 unfolding lineOf faultLine filled spelled
 fault-told-as-a-refusal p = lists-differ tt (ap integers (p .buffer))
 
+-- `? line 12: number 1 does not fit 32 bits`: its limits are others than those of 32 bits with a sign
+pub beyond-unsigned-told-as-32 : writes (Wrong 12 (BeyondUnsigned 1)) (63 ∷ 32 ∷ 108 ∷ 105 ∷ 110 ∷ 101 ∷ 32 ∷ 49 ∷ 50 ∷ 58 ∷ 32 ∷ 110 ∷ 117 ∷ 109 ∷ 98 ∷ 101 ∷ 114 ∷ 32 ∷ 49 ∷ 32 ∷ 100 ∷ 111 ∷ 101 ∷ 115 ∷ 32 ∷ 110 ∷ 111 ∷ 116 ∷ 32 ∷ 102 ∷ 105 ∷ 116 ∷ 32 ∷ 51 ∷ 50 ∷ 32 ∷ 98 ∷ 105 ∷ 116 ∷ 115 ∷ 10 ∷ []) → ⊥
+unfolding lineOf faultLine filled spelled
+beyond-unsigned-told-as-32 p = lists-differ tt (ap integers (p .buffer))
+
+-- `? line 12: number 1 does not fit 64 bits`: nor those of 64
+pub beyond-unsigned-told-as-64 : writes (Wrong 12 (BeyondUnsigned 1)) (63 ∷ 32 ∷ 108 ∷ 105 ∷ 110 ∷ 101 ∷ 32 ∷ 49 ∷ 50 ∷ 58 ∷ 32 ∷ 110 ∷ 117 ∷ 109 ∷ 98 ∷ 101 ∷ 114 ∷ 32 ∷ 49 ∷ 32 ∷ 100 ∷ 111 ∷ 101 ∷ 115 ∷ 32 ∷ 110 ∷ 111 ∷ 116 ∷ 32 ∷ 102 ∷ 105 ∷ 116 ∷ 32 ∷ 54 ∷ 52 ∷ 32 ∷ 98 ∷ 105 ∷ 116 ∷ 115 ∷ 10 ∷ []) → ⊥
+unfolding lineOf faultLine filled spelled
+beyond-unsigned-told-as-64 p = lists-differ tt (ap integers (p .buffer))
+
+-- `? line 12: number 1 is not a whole decimal number`: it is a number
+pub beyond-unsigned-told-as-no-number : writes (Wrong 12 (BeyondUnsigned 1)) (63 ∷ 32 ∷ 108 ∷ 105 ∷ 110 ∷ 101 ∷ 32 ∷ 49 ∷ 50 ∷ 58 ∷ 32 ∷ 110 ∷ 117 ∷ 109 ∷ 98 ∷ 101 ∷ 114 ∷ 32 ∷ 49 ∷ 32 ∷ 105 ∷ 115 ∷ 32 ∷ 110 ∷ 111 ∷ 116 ∷ 32 ∷ 97 ∷ 32 ∷ 119 ∷ 104 ∷ 111 ∷ 108 ∷ 101 ∷ 32 ∷ 100 ∷ 101 ∷ 99 ∷ 105 ∷ 109 ∷ 97 ∷ 108 ∷ 32 ∷ 110 ∷ 117 ∷ 109 ∷ 98 ∷ 101 ∷ 114 ∷ 10 ∷ []) → ⊥
+unfolding lineOf faultLine filled spelled
+beyond-unsigned-told-as-no-number p = lists-differ tt (ap integers (p .buffer))
+
+-- `? line 12: number 1 is not in 0 to 8`: the limit is that of a line, and not of a table
+pub beyond-unsigned-told-as-beyond-8 : writes (Wrong 12 (BeyondUnsigned 1)) (63 ∷ 32 ∷ 108 ∷ 105 ∷ 110 ∷ 101 ∷ 32 ∷ 49 ∷ 50 ∷ 58 ∷ 32 ∷ 110 ∷ 117 ∷ 109 ∷ 98 ∷ 101 ∷ 114 ∷ 32 ∷ 49 ∷ 32 ∷ 105 ∷ 115 ∷ 32 ∷ 110 ∷ 111 ∷ 116 ∷ 32 ∷ 105 ∷ 110 ∷ 32 ∷ 48 ∷ 32 ∷ 116 ∷ 111 ∷ 32 ∷ 56 ∷ 10 ∷ []) → ⊥
+unfolding lineOf faultLine filled spelled
+beyond-unsigned-told-as-beyond-8 p = lists-differ tt (ap integers (p .buffer))
+
+-- `refused 12 at 0: the slope unit is not in 0 to 8`: nor is it a table's refusal
+pub beyond-unsigned-told-as-a-refusal : writes (Wrong 12 (BeyondUnsigned 1)) (114 ∷ 101 ∷ 102 ∷ 117 ∷ 115 ∷ 101 ∷ 100 ∷ 32 ∷ 49 ∷ 50 ∷ 32 ∷ 97 ∷ 116 ∷ 32 ∷ 48 ∷ 58 ∷ 32 ∷ 116 ∷ 104 ∷ 101 ∷ 32 ∷ 115 ∷ 108 ∷ 111 ∷ 112 ∷ 101 ∷ 32 ∷ 117 ∷ 110 ∷ 105 ∷ 116 ∷ 32 ∷ 105 ∷ 115 ∷ 32 ∷ 110 ∷ 111 ∷ 116 ∷ 32 ∷ 105 ∷ 110 ∷ 32 ∷ 48 ∷ 32 ∷ 116 ∷ 111 ∷ 32 ∷ 56 ∷ 10 ∷ []) → ⊥
+unfolding lineOf faultLine filled spelled
+beyond-unsigned-told-as-a-refusal p = lists-differ tt (ap integers (p .buffer))
+
+-- `? line 12: number 2 is not in 0 to 4294967295`: the number is 1
+pub beyond-unsigned-of-another-number : writes (Wrong 12 (BeyondUnsigned 1)) (63 ∷ 32 ∷ 108 ∷ 105 ∷ 110 ∷ 101 ∷ 32 ∷ 49 ∷ 50 ∷ 58 ∷ 32 ∷ 110 ∷ 117 ∷ 109 ∷ 98 ∷ 101 ∷ 114 ∷ 32 ∷ 50 ∷ 32 ∷ 105 ∷ 115 ∷ 32 ∷ 110 ∷ 111 ∷ 116 ∷ 32 ∷ 105 ∷ 110 ∷ 32 ∷ 48 ∷ 32 ∷ 116 ∷ 111 ∷ 32 ∷ 52 ∷ 50 ∷ 57 ∷ 52 ∷ 57 ∷ 54 ∷ 55 ∷ 50 ∷ 57 ∷ 53 ∷ 10 ∷ []) → ⊥
+unfolding lineOf faultLine filled spelled
+beyond-unsigned-of-another-number p = lists-differ tt (ap integers (p .buffer))
+
+-- `? line 11: number 1 is not in 0 to 4294967295`: the line is 12
+pub beyond-unsigned-of-another-line : writes (Wrong 12 (BeyondUnsigned 1)) (63 ∷ 32 ∷ 108 ∷ 105 ∷ 110 ∷ 101 ∷ 32 ∷ 49 ∷ 49 ∷ 58 ∷ 32 ∷ 110 ∷ 117 ∷ 109 ∷ 98 ∷ 101 ∷ 114 ∷ 32 ∷ 49 ∷ 32 ∷ 105 ∷ 115 ∷ 32 ∷ 110 ∷ 111 ∷ 116 ∷ 32 ∷ 105 ∷ 110 ∷ 32 ∷ 48 ∷ 32 ∷ 116 ∷ 111 ∷ 32 ∷ 52 ∷ 50 ∷ 57 ∷ 52 ∷ 57 ∷ 54 ∷ 55 ∷ 50 ∷ 57 ∷ 53 ∷ 10 ∷ []) → ⊥
+unfolding lineOf faultLine filled spelled
+beyond-unsigned-of-another-line p = lists-differ tt (ap integers (p .buffer))
+
+-- `? line 1: number 3 is not in 0 to 4294967295`: 32 bits with a sign
+pub beyond-32-told-as-unsigned : writes (Wrong 1 (Beyond32 3)) (63 ∷ 32 ∷ 108 ∷ 105 ∷ 110 ∷ 101 ∷ 32 ∷ 49 ∷ 58 ∷ 32 ∷ 110 ∷ 117 ∷ 109 ∷ 98 ∷ 101 ∷ 114 ∷ 32 ∷ 51 ∷ 32 ∷ 105 ∷ 115 ∷ 32 ∷ 110 ∷ 111 ∷ 116 ∷ 32 ∷ 105 ∷ 110 ∷ 32 ∷ 48 ∷ 32 ∷ 116 ∷ 111 ∷ 32 ∷ 52 ∷ 50 ∷ 57 ∷ 52 ∷ 57 ∷ 54 ∷ 55 ∷ 50 ∷ 57 ∷ 53 ∷ 10 ∷ []) → ⊥
+unfolding lineOf faultLine filled spelled
+beyond-32-told-as-unsigned p = lists-differ tt (ap integers (p .buffer))
+
+-- `? line 1: number 3 is not in 0 to 4294967295`: 64 bits
+pub beyond-64-told-as-unsigned : writes (Wrong 1 (Beyond64 3)) (63 ∷ 32 ∷ 108 ∷ 105 ∷ 110 ∷ 101 ∷ 32 ∷ 49 ∷ 58 ∷ 32 ∷ 110 ∷ 117 ∷ 109 ∷ 98 ∷ 101 ∷ 114 ∷ 32 ∷ 51 ∷ 32 ∷ 105 ∷ 115 ∷ 32 ∷ 110 ∷ 111 ∷ 116 ∷ 32 ∷ 105 ∷ 110 ∷ 32 ∷ 48 ∷ 32 ∷ 116 ∷ 111 ∷ 32 ∷ 52 ∷ 50 ∷ 57 ∷ 52 ∷ 57 ∷ 54 ∷ 55 ∷ 50 ∷ 57 ∷ 53 ∷ 10 ∷ []) → ⊥
+unfolding lineOf faultLine filled spelled
+beyond-64-told-as-unsigned p = lists-differ tt (ap integers (p .buffer))
+
 -- ---- a refusal: its number, its place and the number's cause
 
 -- `refused 3 at 2: a rise is outside its limits`: 3 is a width
@@ -147,10 +192,40 @@ pub causes-counted-from-0 : writes (Done (record { number = 1; place = 0 })) (11
 unfolding lineOf faultLine filled spelled
 causes-counted-from-0 p = lists-differ tt (ap integers (p .buffer))
 
--- `refused 99 at 0: piece too large for the exact float answer`: 99 has no cause
-pub no-cause-told-as-the-last : writes (Done (record { number = 99; place = 0 })) (114 ∷ 101 ∷ 102 ∷ 117 ∷ 115 ∷ 101 ∷ 100 ∷ 32 ∷ 57 ∷ 57 ∷ 32 ∷ 97 ∷ 116 ∷ 32 ∷ 48 ∷ 58 ∷ 32 ∷ 112 ∷ 105 ∷ 101 ∷ 99 ∷ 101 ∷ 32 ∷ 116 ∷ 111 ∷ 111 ∷ 32 ∷ 108 ∷ 97 ∷ 114 ∷ 103 ∷ 101 ∷ 32 ∷ 102 ∷ 111 ∷ 114 ∷ 32 ∷ 116 ∷ 104 ∷ 101 ∷ 32 ∷ 101 ∷ 120 ∷ 97 ∷ 99 ∷ 116 ∷ 32 ∷ 102 ∷ 108 ∷ 111 ∷ 97 ∷ 116 ∷ 32 ∷ 97 ∷ 110 ∷ 115 ∷ 119 ∷ 101 ∷ 114 ∷ 10 ∷ []) → ⊥
+-- `refused 99 at 0: the slope unit is not in 0 to 8`: 99 has no cause
+pub no-cause-told-as-the-last : writes (Done (record { number = 99; place = 0 })) (114 ∷ 101 ∷ 102 ∷ 117 ∷ 115 ∷ 101 ∷ 100 ∷ 32 ∷ 57 ∷ 57 ∷ 32 ∷ 97 ∷ 116 ∷ 32 ∷ 48 ∷ 58 ∷ 32 ∷ 116 ∷ 104 ∷ 101 ∷ 32 ∷ 115 ∷ 108 ∷ 111 ∷ 112 ∷ 101 ∷ 32 ∷ 117 ∷ 110 ∷ 105 ∷ 116 ∷ 32 ∷ 105 ∷ 115 ∷ 32 ∷ 110 ∷ 111 ∷ 116 ∷ 32 ∷ 105 ∷ 110 ∷ 32 ∷ 48 ∷ 32 ∷ 116 ∷ 111 ∷ 32 ∷ 56 ∷ 10 ∷ []) → ⊥
 unfolding lineOf faultLine filled spelled
 no-cause-told-as-the-last p = lists-differ tt (ap integers (p .buffer))
+
+-- `refused 12 at 0: `: 12 has a cause
+pub unit-refused-without-a-cause : writes (Done (record { number = 12; place = 0 })) (114 ∷ 101 ∷ 102 ∷ 117 ∷ 115 ∷ 101 ∷ 100 ∷ 32 ∷ 49 ∷ 50 ∷ 32 ∷ 97 ∷ 116 ∷ 32 ∷ 48 ∷ 58 ∷ 32 ∷ 10 ∷ []) → ⊥
+unfolding lineOf faultLine filled spelled
+unit-refused-without-a-cause p = lists-differ tt (ap integers (p .buffer))
+
+-- `refused 12 at 0: piece too large for the exact float answer`: and that of 8 is another
+pub unit-told-as-a-size : writes (Done (record { number = 12; place = 0 })) (114 ∷ 101 ∷ 102 ∷ 117 ∷ 115 ∷ 101 ∷ 100 ∷ 32 ∷ 49 ∷ 50 ∷ 32 ∷ 97 ∷ 116 ∷ 32 ∷ 48 ∷ 58 ∷ 32 ∷ 112 ∷ 105 ∷ 101 ∷ 99 ∷ 101 ∷ 32 ∷ 116 ∷ 111 ∷ 111 ∷ 32 ∷ 108 ∷ 97 ∷ 114 ∷ 103 ∷ 101 ∷ 32 ∷ 102 ∷ 111 ∷ 114 ∷ 32 ∷ 116 ∷ 104 ∷ 101 ∷ 32 ∷ 101 ∷ 120 ∷ 97 ∷ 99 ∷ 116 ∷ 32 ∷ 102 ∷ 108 ∷ 111 ∷ 97 ∷ 116 ∷ 32 ∷ 97 ∷ 110 ∷ 115 ∷ 119 ∷ 101 ∷ 114 ∷ 10 ∷ []) → ⊥
+unfolding lineOf faultLine filled spelled
+unit-told-as-a-size p = lists-differ tt (ap integers (p .buffer))
+
+-- `refused 9 at 0: the slope unit is not in 0 to 8`: 9 has no cause, and yet is counted
+pub empty-causes-passed-over : writes (Done (record { number = 9; place = 0 })) (114 ∷ 101 ∷ 102 ∷ 117 ∷ 115 ∷ 101 ∷ 100 ∷ 32 ∷ 57 ∷ 32 ∷ 97 ∷ 116 ∷ 32 ∷ 48 ∷ 58 ∷ 32 ∷ 116 ∷ 104 ∷ 101 ∷ 32 ∷ 115 ∷ 108 ∷ 111 ∷ 112 ∷ 101 ∷ 32 ∷ 117 ∷ 110 ∷ 105 ∷ 116 ∷ 32 ∷ 105 ∷ 115 ∷ 32 ∷ 110 ∷ 111 ∷ 116 ∷ 32 ∷ 105 ∷ 110 ∷ 32 ∷ 48 ∷ 32 ∷ 116 ∷ 111 ∷ 32 ∷ 56 ∷ 10 ∷ []) → ⊥
+unfolding lineOf faultLine filled spelled
+empty-causes-passed-over p = lists-differ tt (ap integers (p .buffer))
+
+-- `refused 10 at 0: the slope unit is not in 0 to 8`: nor has 10
+pub cause-of-12-for-10 : writes (Done (record { number = 10; place = 0 })) (114 ∷ 101 ∷ 102 ∷ 117 ∷ 115 ∷ 101 ∷ 100 ∷ 32 ∷ 49 ∷ 48 ∷ 32 ∷ 97 ∷ 116 ∷ 32 ∷ 48 ∷ 58 ∷ 32 ∷ 116 ∷ 104 ∷ 101 ∷ 32 ∷ 115 ∷ 108 ∷ 111 ∷ 112 ∷ 101 ∷ 32 ∷ 117 ∷ 110 ∷ 105 ∷ 116 ∷ 32 ∷ 105 ∷ 115 ∷ 32 ∷ 110 ∷ 111 ∷ 116 ∷ 32 ∷ 105 ∷ 110 ∷ 32 ∷ 48 ∷ 32 ∷ 116 ∷ 111 ∷ 32 ∷ 56 ∷ 10 ∷ []) → ⊥
+unfolding lineOf faultLine filled spelled
+cause-of-12-for-10 p = lists-differ tt (ap integers (p .buffer))
+
+-- `refused 11 at 0: the slope unit is not in 0 to 8`: nor 11
+pub cause-of-12-for-11 : writes (Done (record { number = 11; place = 0 })) (114 ∷ 101 ∷ 102 ∷ 117 ∷ 115 ∷ 101 ∷ 100 ∷ 32 ∷ 49 ∷ 49 ∷ 32 ∷ 97 ∷ 116 ∷ 32 ∷ 48 ∷ 58 ∷ 32 ∷ 116 ∷ 104 ∷ 101 ∷ 32 ∷ 115 ∷ 108 ∷ 111 ∷ 112 ∷ 101 ∷ 32 ∷ 117 ∷ 110 ∷ 105 ∷ 116 ∷ 32 ∷ 105 ∷ 115 ∷ 32 ∷ 110 ∷ 111 ∷ 116 ∷ 32 ∷ 105 ∷ 110 ∷ 32 ∷ 48 ∷ 32 ∷ 116 ∷ 111 ∷ 32 ∷ 56 ∷ 10 ∷ []) → ⊥
+unfolding lineOf faultLine filled spelled
+cause-of-12-for-11 p = lists-differ tt (ap integers (p .buffer))
+
+-- `refused 9 at 0: piece too large for the exact float answer`: it does not keep the one before it
+pub cause-of-8-for-9 : writes (Done (record { number = 9; place = 0 })) (114 ∷ 101 ∷ 102 ∷ 117 ∷ 115 ∷ 101 ∷ 100 ∷ 32 ∷ 57 ∷ 32 ∷ 97 ∷ 116 ∷ 32 ∷ 48 ∷ 58 ∷ 32 ∷ 112 ∷ 105 ∷ 101 ∷ 99 ∷ 101 ∷ 32 ∷ 116 ∷ 111 ∷ 111 ∷ 32 ∷ 108 ∷ 97 ∷ 114 ∷ 103 ∷ 101 ∷ 32 ∷ 102 ∷ 111 ∷ 114 ∷ 32 ∷ 116 ∷ 104 ∷ 101 ∷ 32 ∷ 101 ∷ 120 ∷ 97 ∷ 99 ∷ 116 ∷ 32 ∷ 102 ∷ 108 ∷ 111 ∷ 97 ∷ 116 ∷ 32 ∷ 97 ∷ 110 ∷ 115 ∷ 119 ∷ 101 ∷ 114 ∷ 10 ∷ []) → ⊥
+unfolding lineOf faultLine filled spelled
+cause-of-8-for-9 p = lists-differ tt (ap integers (p .buffer))
 
 -- `ok`: it is not done
 pub refused-told-as-done : writes (Done (record { number = 3; place = 2 })) (111 ∷ 107 ∷ 10 ∷ []) → ⊥
@@ -328,6 +403,38 @@ pub move-told-as-a-dwell : writes (moves (fin false 3 (pos 0)) (fin true 5 (pos 
 unfolding lineOf floatAs filled spelled
 move-told-as-a-dwell p = lists-differ tt (ap integers (p .buffer))
 
+-- ---- the slope unit
+
+-- `ok 8`: the unit alone
+pub unit-with-a-word : writes (SlopeUnit 8) (111 ∷ 107 ∷ 32 ∷ 56 ∷ 10 ∷ []) → ⊥
+unfolding lineOf faultLine filled spelled
+unit-with-a-word p = lists-differ tt (ap integers (p .buffer))
+
+-- `ok`: it is told
+pub unit-told-as-done : writes (SlopeUnit 8) (111 ∷ 107 ∷ 10 ∷ []) → ⊥
+unfolding lineOf faultLine filled spelled
+unit-told-as-done p = lists-differ tt (ap integers (p .buffer))
+
+-- `-8`: it has no sign
+pub unit-with-a-minus : writes (SlopeUnit 8) (45 ∷ 56 ∷ 10 ∷ []) → ⊥
+unfolding lineOf faultLine filled spelled
+unit-with-a-minus p = lists-differ tt (ap integers (p .buffer))
+
+-- `+8`: of either kind
+pub unit-with-a-plus : writes (SlopeUnit 8) (43 ∷ 56 ∷ 10 ∷ []) → ⊥
+unfolding lineOf faultLine filled spelled
+unit-with-a-plus p = lists-differ tt (ap integers (p .buffer))
+
+-- `9`: 8
+pub another-unit : writes (SlopeUnit 8) (57 ∷ 10 ∷ []) → ⊥
+unfolding lineOf faultLine filled spelled
+another-unit p = lists-differ tt (ap integers (p .buffer))
+
+-- `256`: slopes are in units of 1/2^8, and 8 is told
+pub unit-told-as-its-power : writes (SlopeUnit 8) (50 ∷ 53 ∷ 54 ∷ 10 ∷ []) → ⊥
+unfolding lineOf faultLine filled spelled
+unit-told-as-its-power p = lists-differ tt (ap integers (p .buffer))
+
 -- ---- the line's end
 
 -- `ok` without an LF: the line ends
@@ -379,8 +486,14 @@ pub record RightReplies : Type 0 where
   pub too-few : writes (Wrong 12 TooFew) (63 ∷ 32 ∷ 108 ∷ 105 ∷ 110 ∷ 101 ∷ 32 ∷ 49 ∷ 50 ∷ 58 ∷ 32 ∷ 116 ∷ 111 ∷ 111 ∷ 32 ∷ 102 ∷ 101 ∷ 119 ∷ 32 ∷ 119 ∷ 111 ∷ 114 ∷ 100 ∷ 115 ∷ 10 ∷ [])
   -- `? line 12: number 2 is not a whole decimal number`
   pub not-decimal : writes (Wrong 12 (NotDecimal 2)) (63 ∷ 32 ∷ 108 ∷ 105 ∷ 110 ∷ 101 ∷ 32 ∷ 49 ∷ 50 ∷ 58 ∷ 32 ∷ 110 ∷ 117 ∷ 109 ∷ 98 ∷ 101 ∷ 114 ∷ 32 ∷ 50 ∷ 32 ∷ 105 ∷ 115 ∷ 32 ∷ 110 ∷ 111 ∷ 116 ∷ 32 ∷ 97 ∷ 32 ∷ 119 ∷ 104 ∷ 111 ∷ 108 ∷ 101 ∷ 32 ∷ 100 ∷ 101 ∷ 99 ∷ 105 ∷ 109 ∷ 97 ∷ 108 ∷ 32 ∷ 110 ∷ 117 ∷ 109 ∷ 98 ∷ 101 ∷ 114 ∷ 10 ∷ [])
+  -- `? line 12: number 1 is not in 0 to 4294967295`
+  pub beyond-unsigned : writes (Wrong 12 (BeyondUnsigned 1)) (63 ∷ 32 ∷ 108 ∷ 105 ∷ 110 ∷ 101 ∷ 32 ∷ 49 ∷ 50 ∷ 58 ∷ 32 ∷ 110 ∷ 117 ∷ 109 ∷ 98 ∷ 101 ∷ 114 ∷ 32 ∷ 49 ∷ 32 ∷ 105 ∷ 115 ∷ 32 ∷ 110 ∷ 111 ∷ 116 ∷ 32 ∷ 105 ∷ 110 ∷ 32 ∷ 48 ∷ 32 ∷ 116 ∷ 111 ∷ 32 ∷ 52 ∷ 50 ∷ 57 ∷ 52 ∷ 57 ∷ 54 ∷ 55 ∷ 50 ∷ 57 ∷ 53 ∷ 10 ∷ [])
   -- `refused 3 at 2: a width is not in 1 to 1024`
   pub refused : writes (Done (record { number = 3; place = 2 })) (114 ∷ 101 ∷ 102 ∷ 117 ∷ 115 ∷ 101 ∷ 100 ∷ 32 ∷ 51 ∷ 32 ∷ 97 ∷ 116 ∷ 32 ∷ 50 ∷ 58 ∷ 32 ∷ 97 ∷ 32 ∷ 119 ∷ 105 ∷ 100 ∷ 116 ∷ 104 ∷ 32 ∷ 105 ∷ 115 ∷ 32 ∷ 110 ∷ 111 ∷ 116 ∷ 32 ∷ 105 ∷ 110 ∷ 32 ∷ 49 ∷ 32 ∷ 116 ∷ 111 ∷ 32 ∷ 49 ∷ 48 ∷ 50 ∷ 52 ∷ 10 ∷ [])
+  -- `refused 12 at 0: the slope unit is not in 0 to 8`
+  pub unit-refused : writes (Done (record { number = 12; place = 0 })) (114 ∷ 101 ∷ 102 ∷ 117 ∷ 115 ∷ 101 ∷ 100 ∷ 32 ∷ 49 ∷ 50 ∷ 32 ∷ 97 ∷ 116 ∷ 32 ∷ 48 ∷ 58 ∷ 32 ∷ 116 ∷ 104 ∷ 101 ∷ 32 ∷ 115 ∷ 108 ∷ 111 ∷ 112 ∷ 101 ∷ 32 ∷ 117 ∷ 110 ∷ 105 ∷ 116 ∷ 32 ∷ 105 ∷ 115 ∷ 32 ∷ 110 ∷ 111 ∷ 116 ∷ 32 ∷ 105 ∷ 110 ∷ 32 ∷ 48 ∷ 32 ∷ 116 ∷ 111 ∷ 32 ∷ 56 ∷ 10 ∷ [])
+  -- `refused 9 at 0: `
+  pub no-cause-yet : writes (Done (record { number = 9; place = 0 })) (114 ∷ 101 ∷ 102 ∷ 117 ∷ 115 ∷ 101 ∷ 100 ∷ 32 ∷ 57 ∷ 32 ∷ 97 ∷ 116 ∷ 32 ∷ 48 ∷ 58 ∷ 32 ∷ 10 ∷ [])
   -- `refused 99 at 0: `
   pub no-cause : writes (Done (record { number = 99; place = 0 })) (114 ∷ 101 ∷ 102 ∷ 117 ∷ 115 ∷ 101 ∷ 100 ∷ 32 ∷ 57 ∷ 57 ∷ 32 ∷ 97 ∷ 116 ∷ 32 ∷ 48 ∷ 58 ∷ 32 ∷ 10 ∷ [])
   -- `ok`
@@ -401,6 +514,8 @@ pub record RightReplies : Type 0 where
   pub moved : writes (moves (fin false 3 (pos 0)) (fin true 0 (pos 0)) (fin false 1 (pos 8))) (109 ∷ 111 ∷ 118 ∷ 101 ∷ 32 ∷ 51 ∷ 32 ∷ 45 ∷ 48 ∷ 32 ∷ 50 ∷ 53 ∷ 54 ∷ 10 ∷ [])
   -- `refused 8 at 7: piece too large for the exact float answer`
   pub drive-refused : writes (Driven (record { refusal = record { number = 8; place = 7 }; answer = Dwell (fin false 0 (pos 0)) })) (114 ∷ 101 ∷ 102 ∷ 117 ∷ 115 ∷ 101 ∷ 100 ∷ 32 ∷ 56 ∷ 32 ∷ 97 ∷ 116 ∷ 32 ∷ 55 ∷ 58 ∷ 32 ∷ 112 ∷ 105 ∷ 101 ∷ 99 ∷ 101 ∷ 32 ∷ 116 ∷ 111 ∷ 111 ∷ 32 ∷ 108 ∷ 97 ∷ 114 ∷ 103 ∷ 101 ∷ 32 ∷ 102 ∷ 111 ∷ 114 ∷ 32 ∷ 116 ∷ 104 ∷ 101 ∷ 32 ∷ 101 ∷ 120 ∷ 97 ∷ 99 ∷ 116 ∷ 32 ∷ 102 ∷ 108 ∷ 111 ∷ 97 ∷ 116 ∷ 32 ∷ 97 ∷ 110 ∷ 115 ∷ 119 ∷ 101 ∷ 114 ∷ 10 ∷ [])
+  -- `8`
+  pub slope-unit : writes (SlopeUnit 8) (56 ∷ 10 ∷ [])
   -- nothing
   pub silence : writes Silent []
   -- `ok`, LF behind `a`; and as far as there is room
@@ -413,7 +528,10 @@ right-replies =
     record {
       too-few = record { counted = refl; buffer = refl };
       not-decimal = record { counted = refl; buffer = refl };
+      beyond-unsigned = record { counted = refl; buffer = refl };
       refused = record { counted = refl; buffer = refl };
+      unit-refused = record { counted = refl; buffer = refl };
+      no-cause-yet = record { counted = refl; buffer = refl };
       no-cause = record { counted = refl; buffer = refl };
       done = record { counted = refl; buffer = refl };
       count = record { counted = refl; buffer = refl };
@@ -424,6 +542,7 @@ right-replies =
       dwell = record { counted = refl; buffer = refl };
       moved = record { counted = refl; buffer = refl };
       drive-refused = record { counted = refl; buffer = refl };
+      slope-unit = record { counted = refl; buffer = refl };
       silence = record { counted = refl; buffer = refl };
       behind = record { counted = refl; buffer = refl };
       cut = record { counted = refl; buffer = refl };

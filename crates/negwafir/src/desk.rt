@@ -7,12 +7,13 @@ use commands::Command;
 use commands::List;
 use lists::ROOM;
 use replies::Reply;
+use rules::Refusal;
 use table::Change;
 
 // A number that no point of any table has.
 const NO_POINT: usize = 18446744073709551615;
 
-// The lists are empty.
+// The lists are empty, and slopes are in units of 1/2^8.
 pub fn empty() -> Kept {
     Kept {
         knots: 0,
@@ -151,6 +152,9 @@ fn read(
     if let Command::Show(list) = command {
         return show(kept, list, k, v, s);
     }
+    if let Command::SetUnit(unit) = command {
+        return set_unit(kept, unit);
+    }
     reply(kept, answer_to(command, number, kept.unit, k, v, s))
 }
 
@@ -168,6 +172,7 @@ fn answer_to(
         Command::Check => Reply::Done(table::check(unit, knots, values, slopes)),
         Command::At(x) => Reply::Valued(curve::evaluate(unit, knots, values, slopes, x)),
         Command::Drive(x) => Reply::Driven(drive::float_answer(unit, knots, values, slopes, x)),
+        Command::ShowUnit => Reply::SlopeUnit(unit),
         _ => Reply::Silent,
     }
 }
@@ -181,6 +186,17 @@ fn show(before: Kept, list: List, knots: &[i32], values: &[i32], slopes: &[i32])
         List::Slopes => say::row(slopes),
     };
     kept
+}
+
+// `unit S`: the unit of the slopes from now on. It asks nothing of the table.
+fn set_unit(before: Kept, unit: u32) -> Kept {
+    let mut kept = before;
+    kept.unit = unit;
+    let done = Refusal {
+        number: rules::DONE,
+        place: 0,
+    };
+    reply(kept, Reply::Done(done))
 }
 
 fn reply(before: Kept, reply: Reply) -> Kept {

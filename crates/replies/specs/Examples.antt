@@ -6,10 +6,10 @@ use lib.IntN.{pos, negsuc}
 use lib.Ieee.{nan, inf, fin}
 use Rattle.decimals.specs.Text.{spelled}
 use Rattle.answers.specs.Filling.{naturalAs, wholeAs, filled}
-use Rattle.commands.specs.declared.Fault.the-variants.{TooLong, NoCommand, TooFew, TooMany, NoList, NotDecimal, Beyond32, Beyond64}
+use Rattle.commands.specs.declared.Fault.the-variants.{TooLong, NoCommand, TooFew, TooMany, NoList, NotDecimal, Beyond32, Beyond64, BeyondUnsigned}
 use Rattle.piece.specs.declared.Verdict.the-variants.{Rising, Falling, Flat, Bends, Refused}
 use Rattle.drive.specs.declared.Answer.the-variants.{Dwell, Move}
-use Rattle.replies.specs.declared.Reply.the-variants.{Silent, Wrong, Done, Count, Judged, Valued, Driven}
+use Rattle.replies.specs.declared.Reply.the-variants.{Silent, Wrong, Done, Count, Judged, Valued, Driven, SlopeUnit}
 use Rattle.replies.specs.Floats.{floatAs}
 use Rattle.replies.specs.Replies.{faultLine, lineOf}
 
@@ -32,6 +32,8 @@ pub record Worked : Type 0 where
   pub beyond-32 : lineOf (Wrong 13 (Beyond32 3)) ≡ 63 ∷ 32 ∷ 108 ∷ 105 ∷ 110 ∷ 101 ∷ 32 ∷ 49 ∷ 51 ∷ 58 ∷ 32 ∷ 110 ∷ 117 ∷ 109 ∷ 98 ∷ 101 ∷ 114 ∷ 32 ∷ 51 ∷ 32 ∷ 100 ∷ 111 ∷ 101 ∷ 115 ∷ 32 ∷ 110 ∷ 111 ∷ 116 ∷ 32 ∷ 102 ∷ 105 ∷ 116 ∷ 32 ∷ 51 ∷ 50 ∷ 32 ∷ 98 ∷ 105 ∷ 116 ∷ 115 ∷ 10 ∷ []
   -- `? line 14: number 1 does not fit 64 bits`, LF
   pub beyond-64 : lineOf (Wrong 14 (Beyond64 1)) ≡ 63 ∷ 32 ∷ 108 ∷ 105 ∷ 110 ∷ 101 ∷ 32 ∷ 49 ∷ 52 ∷ 58 ∷ 32 ∷ 110 ∷ 117 ∷ 109 ∷ 98 ∷ 101 ∷ 114 ∷ 32 ∷ 49 ∷ 32 ∷ 100 ∷ 111 ∷ 101 ∷ 115 ∷ 32 ∷ 110 ∷ 111 ∷ 116 ∷ 32 ∷ 102 ∷ 105 ∷ 116 ∷ 32 ∷ 54 ∷ 52 ∷ 32 ∷ 98 ∷ 105 ∷ 116 ∷ 115 ∷ 10 ∷ []
+  -- `? line 15: number 1 is not in 0 to 4294967295`, LF
+  pub beyond-unsigned : lineOf (Wrong 15 (BeyondUnsigned 1)) ≡ 63 ∷ 32 ∷ 108 ∷ 105 ∷ 110 ∷ 101 ∷ 32 ∷ 49 ∷ 53 ∷ 58 ∷ 32 ∷ 110 ∷ 117 ∷ 109 ∷ 98 ∷ 101 ∷ 114 ∷ 32 ∷ 49 ∷ 32 ∷ 105 ∷ 115 ∷ 32 ∷ 110 ∷ 111 ∷ 116 ∷ 32 ∷ 105 ∷ 110 ∷ 32 ∷ 48 ∷ 32 ∷ 116 ∷ 111 ∷ 32 ∷ 52 ∷ 50 ∷ 57 ∷ 52 ∷ 57 ∷ 54 ∷ 55 ∷ 50 ∷ 57 ∷ 53 ∷ 10 ∷ []
   -- `refused 1 at 0: the lists' lengths differ`, LF
   pub lengths-refused : lineOf (Done (record { number = 1; place = 0 })) ≡ 114 ∷ 101 ∷ 102 ∷ 117 ∷ 115 ∷ 101 ∷ 100 ∷ 32 ∷ 49 ∷ 32 ∷ 97 ∷ 116 ∷ 32 ∷ 48 ∷ 58 ∷ 32 ∷ 116 ∷ 104 ∷ 101 ∷ 32 ∷ 108 ∷ 105 ∷ 115 ∷ 116 ∷ 115 ∷ 39 ∷ 32 ∷ 108 ∷ 101 ∷ 110 ∷ 103 ∷ 116 ∷ 104 ∷ 115 ∷ 32 ∷ 100 ∷ 105 ∷ 102 ∷ 102 ∷ 101 ∷ 114 ∷ 10 ∷ []
   -- `refused 2 at 0: fewer than 2 or more than 1024 points`, LF
@@ -48,6 +50,10 @@ pub record Worked : Type 0 where
   pub point-refused : lineOf (Done (record { number = 7; place = 0 })) ≡ 114 ∷ 101 ∷ 102 ∷ 117 ∷ 115 ∷ 101 ∷ 100 ∷ 32 ∷ 55 ∷ 32 ∷ 97 ∷ 116 ∷ 32 ∷ 48 ∷ 58 ∷ 32 ∷ 110 ∷ 111 ∷ 32 ∷ 112 ∷ 111 ∷ 105 ∷ 110 ∷ 116 ∷ 32 ∷ 119 ∷ 105 ∷ 116 ∷ 104 ∷ 32 ∷ 116 ∷ 104 ∷ 105 ∷ 115 ∷ 32 ∷ 110 ∷ 117 ∷ 109 ∷ 98 ∷ 101 ∷ 114 ∷ 10 ∷ []
   -- `refused 8 at 7: piece too large for the exact float answer`, LF
   pub size-refused : lineOf (Done (record { number = 8; place = 7 })) ≡ 114 ∷ 101 ∷ 102 ∷ 117 ∷ 115 ∷ 101 ∷ 100 ∷ 32 ∷ 56 ∷ 32 ∷ 97 ∷ 116 ∷ 32 ∷ 55 ∷ 58 ∷ 32 ∷ 112 ∷ 105 ∷ 101 ∷ 99 ∷ 101 ∷ 32 ∷ 116 ∷ 111 ∷ 111 ∷ 32 ∷ 108 ∷ 97 ∷ 114 ∷ 103 ∷ 101 ∷ 32 ∷ 102 ∷ 111 ∷ 114 ∷ 32 ∷ 116 ∷ 104 ∷ 101 ∷ 32 ∷ 101 ∷ 120 ∷ 97 ∷ 99 ∷ 116 ∷ 32 ∷ 102 ∷ 108 ∷ 111 ∷ 97 ∷ 116 ∷ 32 ∷ 97 ∷ 110 ∷ 115 ∷ 119 ∷ 101 ∷ 114 ∷ 10 ∷ []
+  -- `refused 11 at 0: `, LF
+  pub no-cause-yet : lineOf (Done (record { number = 11; place = 0 })) ≡ 114 ∷ 101 ∷ 102 ∷ 117 ∷ 115 ∷ 101 ∷ 100 ∷ 32 ∷ 49 ∷ 49 ∷ 32 ∷ 97 ∷ 116 ∷ 32 ∷ 48 ∷ 58 ∷ 32 ∷ 10 ∷ []
+  -- `refused 12 at 0: the slope unit is not in 0 to 8`, LF
+  pub unit-refused : lineOf (Done (record { number = 12; place = 0 })) ≡ 114 ∷ 101 ∷ 102 ∷ 117 ∷ 115 ∷ 101 ∷ 100 ∷ 32 ∷ 49 ∷ 50 ∷ 32 ∷ 97 ∷ 116 ∷ 32 ∷ 48 ∷ 58 ∷ 32 ∷ 116 ∷ 104 ∷ 101 ∷ 32 ∷ 115 ∷ 108 ∷ 111 ∷ 112 ∷ 101 ∷ 32 ∷ 117 ∷ 110 ∷ 105 ∷ 116 ∷ 32 ∷ 105 ∷ 115 ∷ 32 ∷ 110 ∷ 111 ∷ 116 ∷ 32 ∷ 105 ∷ 110 ∷ 32 ∷ 48 ∷ 32 ∷ 116 ∷ 111 ∷ 32 ∷ 56 ∷ 10 ∷ []
   -- `refused 99 at 3: `, LF
   pub no-cause : lineOf (Done (record { number = 99; place = 3 })) ≡ 114 ∷ 101 ∷ 102 ∷ 117 ∷ 115 ∷ 101 ∷ 100 ∷ 32 ∷ 57 ∷ 57 ∷ 32 ∷ 97 ∷ 116 ∷ 32 ∷ 51 ∷ 58 ∷ 32 ∷ 10 ∷ []
   -- `ok`, LF
@@ -74,6 +80,8 @@ pub record Worked : Type 0 where
   pub move : lineOf (Driven (record { refusal = record { number = 0; place = 0 }; answer = Move (record { left = fin true 3 (pos 0); numerator = fin true 0 (pos 0); denominator = fin false 1 (pos 8) }) })) ≡ 109 ∷ 111 ∷ 118 ∷ 101 ∷ 32 ∷ 45 ∷ 51 ∷ 32 ∷ 45 ∷ 48 ∷ 32 ∷ 50 ∷ 53 ∷ 54 ∷ 10 ∷ []
   -- `refused 8 at 7: piece too large for the exact float answer`, LF
   pub drive-refused : lineOf (Driven (record { refusal = record { number = 8; place = 7 }; answer = Dwell (fin false 0 (pos 0)) })) ≡ 114 ∷ 101 ∷ 102 ∷ 117 ∷ 115 ∷ 101 ∷ 100 ∷ 32 ∷ 56 ∷ 32 ∷ 97 ∷ 116 ∷ 32 ∷ 55 ∷ 58 ∷ 32 ∷ 112 ∷ 105 ∷ 101 ∷ 99 ∷ 101 ∷ 32 ∷ 116 ∷ 111 ∷ 111 ∷ 32 ∷ 108 ∷ 97 ∷ 114 ∷ 103 ∷ 101 ∷ 32 ∷ 102 ∷ 111 ∷ 114 ∷ 32 ∷ 116 ∷ 104 ∷ 101 ∷ 32 ∷ 101 ∷ 120 ∷ 97 ∷ 99 ∷ 116 ∷ 32 ∷ 102 ∷ 108 ∷ 111 ∷ 97 ∷ 116 ∷ 32 ∷ 97 ∷ 110 ∷ 115 ∷ 119 ∷ 101 ∷ 114 ∷ 10 ∷ []
+  -- `8`, LF
+  pub slope-unit : lineOf (SlopeUnit 8) ≡ 56 ∷ 10 ∷ []
   -- the largest float below 2^64; 2^64 itself, which has no place; −2^40; one half of 3; an infinity, and what is no number
   pub largest : floatAs (fin false 9007199254740991 (pos 11)) ≡ naturalAs 18446744073709549568
   pub too-large : floatAs (fin false 1 (pos 64)) ≡ naturalAs 0
@@ -95,6 +103,7 @@ worked =
       not-decimal = refl;
       beyond-32 = refl;
       beyond-64 = refl;
+      beyond-unsigned = refl;
       lengths-refused = refl;
       points-refused = refl;
       width-refused = refl;
@@ -103,6 +112,8 @@ worked =
       position-refused = refl;
       point-refused = refl;
       size-refused = refl;
+      no-cause-yet = refl;
+      unit-refused = refl;
       no-cause = refl;
       done = refl;
       count = refl;
@@ -116,6 +127,7 @@ worked =
       dwell = refl;
       move = refl;
       drive-refused = refl;
+      slope-unit = refl;
       largest = refl;
       too-large = refl;
       negative = refl;

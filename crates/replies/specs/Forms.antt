@@ -11,7 +11,7 @@ use Rattle.answers.specs.Filling.{naturalAs, filled}
 use Rattle.answers.specs.Texts.{entryOf}
 use Rattle.rules.specs.declared.Refusal.{Refusal}
 use Rattle.replies.specs.declared.Parts.{Parts}
-use Rattle.replies.specs.Replies.{tooLong, noCommand, tooFew, tooMany, noList, notDecimal, beyond32, beyond64, refused, ok, counted, rising, falling, flat, bends, value, dwell, move, causes, causeOf, refusedLine, unlessRefused}
+use Rattle.replies.specs.Replies.{tooLong, noCommand, tooFew, tooMany, noList, notDecimal, beyond32, beyond64, beyondUnsigned, refused, ok, counted, rising, falling, flat, bends, value, dwell, move, causes, causeOf, refusedLine, unlessRefused}
 use Rattle.replies.specs.Apart.{textsOf, entry-there}
 
 -- the forms, of which the first is that of no line
@@ -26,6 +26,7 @@ forms =
     ∷ notDecimal
     ∷ beyond32
     ∷ beyond64
+    ∷ beyondUnsigned
     ∷ refused
     ∷ ok
     ∷ counted
@@ -50,7 +51,7 @@ none = record { form = 0; cause = 0; first = naturalAs 0; second = naturalAs 0; 
 
 -- the parts of a refusal's line, and of a line that is that of the refusal where its number is not 0
 abbrev pub refusal : Refusal → Parts
-refusal r = naturals 9 (r .number) (r .number) (r .place)
+refusal r = naturals 10 (r .number) (r .number) (r .place)
 
 abbrev pub unless : Refusal → Parts → Parts
 unless r otherwise = cond (eqb (r .number) 0) otherwise (refusal r)

@@ -7,14 +7,14 @@ use lib.ListN.{getD}
 use Rattle.answers.specs.declared.filling.Signed.{Signed}
 use Rattle.answers.specs.Filling.{naturalAs, wholeAs, filled}
 use Rattle.commands.specs.declared.Fault.{Fault}
-use Rattle.commands.specs.declared.Fault.the-variants.{TooLong, NoCommand, TooFew, TooMany, NoList, NotDecimal, Beyond32, Beyond64}
+use Rattle.commands.specs.declared.Fault.the-variants.{TooLong, NoCommand, TooFew, TooMany, NoList, NotDecimal, Beyond32, Beyond64, BeyondUnsigned}
 use Rattle.rules.specs.declared.Refusal.{Refusal}
 use Rattle.piece.specs.declared.Verdict.{Verdict}
 use Rattle.piece.specs.declared.Verdict.the-variants.{Rising, Falling, Flat, Bends, Refused}
 use Rattle.drive.specs.declared.Answer.{Answer}
 use Rattle.drive.specs.declared.Answer.the-variants.{Dwell, Move}
 use Rattle.replies.specs.declared.Reply.{Reply}
-use Rattle.replies.specs.declared.Reply.the-variants.{Silent, Wrong, Done, Count, Judged, Valued, Driven}
+use Rattle.replies.specs.declared.Reply.the-variants.{Silent, Wrong, Done, Count, Judged, Valued, Driven, SlopeUnit}
 use Rattle.replies.specs.Floats.{floatAs}
 
 -- a form with its numbers filled in, and an LF; it has no cause
@@ -55,6 +55,10 @@ beyond32 = 63 ∷ 32 ∷ 108 ∷ 105 ∷ 110 ∷ 101 ∷ 32 ∷ 35 ∷ 58 ∷ 32
 abbrev pub beyond64 : List ℕ
 beyond64 = 63 ∷ 32 ∷ 108 ∷ 105 ∷ 110 ∷ 101 ∷ 32 ∷ 35 ∷ 58 ∷ 32 ∷ 110 ∷ 117 ∷ 109 ∷ 98 ∷ 101 ∷ 114 ∷ 32 ∷ 35 ∷ 32 ∷ 100 ∷ 111 ∷ 101 ∷ 115 ∷ 32 ∷ 110 ∷ 111 ∷ 116 ∷ 32 ∷ 102 ∷ 105 ∷ 116 ∷ 32 ∷ 54 ∷ 52 ∷ 32 ∷ 98 ∷ 105 ∷ 116 ∷ 115 ∷ []
 
+-- `? line #: number # is not in 0 to 4294967295`
+abbrev pub beyondUnsigned : List ℕ
+beyondUnsigned = 63 ∷ 32 ∷ 108 ∷ 105 ∷ 110 ∷ 101 ∷ 32 ∷ 35 ∷ 58 ∷ 32 ∷ 110 ∷ 117 ∷ 109 ∷ 98 ∷ 101 ∷ 114 ∷ 32 ∷ 35 ∷ 32 ∷ 105 ∷ 115 ∷ 32 ∷ 110 ∷ 111 ∷ 116 ∷ 32 ∷ 105 ∷ 110 ∷ 32 ∷ 48 ∷ 32 ∷ 116 ∷ 111 ∷ 32 ∷ 52 ∷ 50 ∷ 57 ∷ 52 ∷ 57 ∷ 54 ∷ 55 ∷ 50 ∷ 57 ∷ 53 ∷ []
+
 unfoldable pub faultLine : ℕ → Fault → List ℕ
 faultLine n TooLong = line tooLong (naturalAs n ∷ [])
 faultLine n NoCommand = line noCommand (naturalAs n ∷ [])
@@ -64,6 +68,7 @@ faultLine n NoList = line noList (naturalAs n ∷ [])
 faultLine n (NotDecimal k) = line notDecimal (naturalAs n ∷ naturalAs k ∷ [])
 faultLine n (Beyond32 k) = line beyond32 (naturalAs n ∷ naturalAs k ∷ [])
 faultLine n (Beyond64 k) = line beyond64 (naturalAs n ∷ naturalAs k ∷ [])
+faultLine n (BeyondUnsigned k) = line beyondUnsigned (naturalAs n ∷ naturalAs k ∷ [])
 
 -- ---- refusals
 
@@ -99,7 +104,11 @@ noPoint = 110 ∷ 111 ∷ 32 ∷ 112 ∷ 111 ∷ 105 ∷ 110 ∷ 116 ∷ 32 ∷ 
 abbrev tooLarge : List ℕ
 tooLarge = 112 ∷ 105 ∷ 101 ∷ 99 ∷ 101 ∷ 32 ∷ 116 ∷ 111 ∷ 111 ∷ 32 ∷ 108 ∷ 97 ∷ 114 ∷ 103 ∷ 101 ∷ 32 ∷ 102 ∷ 111 ∷ 114 ∷ 32 ∷ 116 ∷ 104 ∷ 101 ∷ 32 ∷ 101 ∷ 120 ∷ 97 ∷ 99 ∷ 116 ∷ 32 ∷ 102 ∷ 108 ∷ 111 ∷ 97 ∷ 116 ∷ 32 ∷ 97 ∷ 110 ∷ 115 ∷ 119 ∷ 101 ∷ 114 ∷ []
 
--- the causes by their numbers, from 0, which refuses nothing
+-- `the slope unit is not in 0 to 8`
+abbrev badUnit : List ℕ
+badUnit = 116 ∷ 104 ∷ 101 ∷ 32 ∷ 115 ∷ 108 ∷ 111 ∷ 112 ∷ 101 ∷ 32 ∷ 117 ∷ 110 ∷ 105 ∷ 116 ∷ 32 ∷ 105 ∷ 115 ∷ 32 ∷ 110 ∷ 111 ∷ 116 ∷ 32 ∷ 105 ∷ 110 ∷ 32 ∷ 48 ∷ 32 ∷ 116 ∷ 111 ∷ 32 ∷ 56 ∷ []
+
+-- the causes by their numbers, from 0, which refuses nothing; 9, 10 and 11 have none
 abbrev pub causes : List (List ℕ)
 causes =
     []
@@ -111,6 +120,10 @@ causes =
     ∷ badPosition
     ∷ noPoint
     ∷ tooLarge
+    ∷ []
+    ∷ []
+    ∷ []
+    ∷ badUnit
     ∷ []
 
 -- a number without a cause has an empty one
@@ -187,3 +200,4 @@ lineOf (Count n) = line counted (naturalAs n ∷ [])
 lineOf (Judged verdict) = verdictLine verdict
 lineOf (Valued v) = unlessRefused (v .refusal) (line value (wholeAs (v .value) ∷ []))
 lineOf (Driven d) = unlessRefused (d .refusal) (toldLine (d .answer))
+lineOf (SlopeUnit s) = line value (naturalAs s ∷ [])

@@ -93,6 +93,7 @@ fn parts_of_fault(line: u64, fault: Fault) -> Parts
         Fault::NotDecimal(k) => with_naturals(6, 0, line, k as u64),
         Fault::Beyond32(k) => with_naturals(7, 0, line, k as u64),
         Fault::Beyond64(k) => with_naturals(8, 0, line, k as u64),
+        Fault::BeyondUnsigned(k) => with_naturals(9, 0, line, k as u64),
     }
 }
 
@@ -109,17 +110,17 @@ fn unless_refused(r: Refusal, otherwise: Parts) -> Parts
 fn parts_of_refusal(r: Refusal) -> Parts
     ensures { λ p. ⌜ p ≡ refusal r ⌝ }
 {
-    with_naturals(9, r.number as usize, r.number as u64, r.place as u64)
+    with_naturals(10, r.number as usize, r.number as u64, r.place as u64)
 }
 
 fn parts_of_verdict(verdict: Verdict) -> Parts
     ensures { λ r. ⌜ Says r (verdictLine verdict) ⌝ }
 {
     match verdict {
-        Verdict::Rising => with_naturals(12, 0, 0, 0),
-        Verdict::Falling => with_naturals(13, 0, 0, 0),
-        Verdict::Flat => with_naturals(14, 0, 0, 0),
-        Verdict::Bends => with_naturals(15, 0, 0, 0),
+        Verdict::Rising => with_naturals(13, 0, 0, 0),
+        Verdict::Falling => with_naturals(14, 0, 0, 0),
+        Verdict::Flat => with_naturals(15, 0, 0, 0),
+        Verdict::Bends => with_naturals(16, 0, 0, 0),
         Verdict::Refused(r) => parts_of_refusal(r),
     }
 }
@@ -128,9 +129,9 @@ fn parts_of_told(answer: Answer) -> Parts
     ensures { λ r. ⌜ Says r (toldLine answer) ⌝ }
 {
     match answer {
-        Answer::Dwell(level) => with_number(17, float(level)),
+        Answer::Dwell(level) => with_number(18, float(level)),
         Answer::Move(m) => with_numbers(
-            18,
+            19,
             float(m.left),
             float(m.numerator),
             float(m.denominator),
@@ -144,13 +145,14 @@ pub(crate) fn parts_of(reply: Reply) -> Parts
     match reply {
         Reply::Silent => nothing(),
         Reply::Wrong(line, fault) => parts_of_fault(line, fault),
-        Reply::Done(r) => unless_refused(r, with_naturals(10, 0, 0, 0)),
-        Reply::Count(n) => with_naturals(11, 0, n as u64, 0),
+        Reply::Done(r) => unless_refused(r, with_naturals(11, 0, 0, 0)),
+        Reply::Count(n) => with_naturals(12, 0, n as u64, 0),
         Reply::Judged(verdict) => parts_of_verdict(verdict),
-        Reply::Valued(v) => unless_refused(v.refusal, with_number(16, answers::whole32(v.value))),
+        Reply::Valued(v) => unless_refused(v.refusal, with_number(17, answers::whole32(v.value))),
         Reply::Driven(d) => {
             let answer = d.answer;
             unless_refused(d.refusal, parts_of_told(answer))
         }
+        Reply::SlopeUnit(s) => with_naturals(17, 0, s as u64, 0),
     }
 }

@@ -5,7 +5,7 @@ use crate::Reply;
 use crate::forms::parts_of;
 
 // Puts the line of a reply, with its LF, behind the first `held` bytes of `into`, as far as there is room, and answers how many bytes stand there then. A silent one has
-// no byte. Every form and every cause stands on a line of its own, at the place that it is taken from.
+// no byte. Every form and every cause stands on a line of its own, at the place that it is taken from: the line of a number without a cause is empty.
 pub fn append_reply(into: &mut [u8], held: usize, reply: Reply) -> usize
     ensures { λ r. ⌜ Appended (now (into .entry)) held (lineOf reply) (now (into .exit)) r ⌝ }
 {
@@ -19,6 +19,7 @@ pub fn append_reply(into: &mut [u8], held: usize, reply: Reply) -> usize
 ? line #: number # is not a whole decimal number
 ? line #: number # does not fit 32 bits
 ? line #: number # does not fit 64 bits
+? line #: number # is not in 0 to 4294967295
 refused # at #: $
 ok
 ok #
@@ -37,7 +38,11 @@ a rise is outside its limits
 a piece is not monotone
 position before the first or after the last knot
 no point with this number
-piece too large for the exact float answer";
+piece too large for the exact float answer
+
+
+
+the slope unit is not in 0 to 8";
     let n = answers::fill(
         into,
         held,

@@ -73,6 +73,9 @@ drive-requires c κs = search needs
 change-requires : tie.Need-change-requires
 change-requires c κs = search needs
 
+unit-requires : tie.Need-unit-requires
+unit-requires c κs = search needs
+
 returns : tie.Need-returns
 returns c = arm (c .before .before) (c .before .match .keys1) (c .set .ensures)
 
@@ -104,7 +107,10 @@ returns-10 : tie.Need-returns-10
 returns-10 c = arm (c .before .before) (c .before .match .keys10) (c .change .ensures)
 
 returns-11 : tie.Need-returns-11
-returns-11 c = none-chosen (commandTable (words (c .before))) (Wrong NoCommand) (name (c .before)) (placed (c .before)) (c .match .rest)
+returns-11 c = arm (c .before .before) (c .before .match .keys11) (c .unit .ensures)
+
+returns-12 : tie.Need-returns-12
+returns-12 c = none-chosen (commandTable (words (c .before))) (Wrong NoCommand) (name (c .before)) (placed (c .before)) (c .match .rest)
 
 pub named-spec : {M : Type 1} → statement M
 named-spec =
@@ -123,6 +129,7 @@ named-spec =
     at-requires
     drive-requires
     change-requires
+    unit-requires
     returns
     returns-2
     returns-3
@@ -133,4 +140,5 @@ named-spec =
     returns-8
     returns-9
     returns-10
-    returns-11)
+    returns-11
+    returns-12)

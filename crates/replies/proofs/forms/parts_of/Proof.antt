@@ -65,6 +65,15 @@ parts-of-told-requires c κs = search needs
 unless-refused-requires-3 : tie.Need-unless-refused-requires-3
 unless-refused-requires-3 c κs = search needs
 
+enum-known-reply-7 : tie.Need-enum-known-reply-7
+enum-known-reply-7 c = search needs
+
+cast-with-naturals : tie.Need-cast-with-naturals
+cast-with-naturals c = search needs
+
+with-naturals-requires-3 : tie.Need-with-naturals-requires-3
+with-naturals-requires-3 c κs = search needs
+
 returns : tie.Need-returns
 unfolding filled lineOf
 returns c = says lineOf (c .nothing .ensures) (c .before .enum-told .given .1) refl
@@ -94,7 +103,7 @@ returns-6 c =
     let given = v .before .before .reply5 .given in
     let fits : SFits w32 (given .0 .0 .value) = record { sfits = v .struct-told .given .1 .0 .1 } in
     let number = c .before .before .whole32 .ensures ∙ ap wholeAs (toZ-ofZ fits) in
-    let parts = c .before .with-number .ensures ∙ ap (λ (first : Signed). numbers 16 first (naturalAs 0) (naturalAs 0)) number in
+    let parts = c .before .with-number .ensures ∙ ap (λ (first : Signed). numbers 17 first (naturalAs 0) (naturalAs 0)) number in
     known lineOf (given .1) (said-unless (given .0 .0 .refusal) (c .unless-refused2 .ensures) (record { said = ap written parts }))
 
 returns-7 : tie.Need-returns-7
@@ -102,6 +111,10 @@ unfolding lineOf
 returns-7 c =
     let given = c .before .before .before .reply6 .given in
     known lineOf (given .1) (said-unless (given .0 .0 .refusal) (c .unless-refused3 .ensures) (c .before .parts-of-told .ensures))
+
+returns-8 : tie.Need-returns-8
+unfolding filled lineOf
+returns-8 c = says lineOf (c .with-naturals3 .ensures) (c .before .before .reply7 .given .1) refl
 
 pub parts-of-spec : {M : Type 1} → statement M
 parts-of-spec =
@@ -125,10 +138,14 @@ parts-of-spec =
     enum-known-reply-6
     parts-of-told-requires
     unless-refused-requires-3
+    enum-known-reply-7
+    cast-with-naturals
+    with-naturals-requires-3
     returns
     returns-2
     returns-3
     returns-4
     returns-5
     returns-6
-    returns-7)
+    returns-7
+    returns-8)

@@ -55,6 +55,12 @@ enum-known-fault-3 c = search needs
 with-naturals-requires-8 : tie.Need-with-naturals-requires-8
 with-naturals-requires-8 c κs = search needs
 
+enum-known-fault-4 : tie.Need-enum-known-fault-4
+enum-known-fault-4 c = search needs
+
+with-naturals-requires-9 : tie.Need-with-naturals-requires-9
+with-naturals-requires-9 c κs = search needs
+
 returns : tie.Need-returns
 unfolding filled faultLine
 returns c = says (faultLine _) (c .with-naturals .ensures) (c .before .enum-told .given .1) refl
@@ -87,6 +93,10 @@ returns-8 : tie.Need-returns-8
 unfolding filled faultLine
 returns-8 c = says (faultLine _) (c .with-naturals8 .ensures) (c .before .before .fault3 .given .1) refl
 
+returns-9 : tie.Need-returns-9
+unfolding filled faultLine
+returns-9 c = says (faultLine _) (c .with-naturals9 .ensures) (c .before .before .fault4 .given .1) refl
+
 pub parts-of-fault-spec : {M : Type 1} → statement M
 parts-of-fault-spec =
     tie.close
@@ -107,6 +117,8 @@ parts-of-fault-spec =
     with-naturals-requires-7
     enum-known-fault-3
     with-naturals-requires-8
+    enum-known-fault-4
+    with-naturals-requires-9
     returns
     returns-2
     returns-3
@@ -114,4 +126,5 @@ parts-of-fault-spec =
     returns-5
     returns-6
     returns-7
-    returns-8)
+    returns-8
+    returns-9)

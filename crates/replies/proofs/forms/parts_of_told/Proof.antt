@@ -34,7 +34,7 @@ with-numbers-requires c κs = search needs
 
 returns : tie.Need-returns
 unfolding filled
-returns c = says toldLine (c .with-number .ensures ∙ ap (λ (level : Signed). numbers 17 level (naturalAs 0) (naturalAs 0)) (c .before .float .ensures)) (c .before .before .before .answer .given .1) refl
+returns c = says toldLine (c .with-number .ensures ∙ ap (λ (level : Signed). numbers 18 level (naturalAs 0) (naturalAs 0)) (c .before .float .ensures)) (c .before .before .before .answer .given .1) refl
 
 returns-2 : tie.Need-returns-2
 unfolding filled
@@ -43,7 +43,7 @@ returns-2 c =
     let second = third .before in
     let first = second .before in
     says toldLine
-    (c .with-numbers .ensures ∙ ap (λ (left : Signed). numbers 18 left (second .float3 .result) (third .float4 .result)) (first .float2 .ensures) ∙ ap₂ (numbers 18 _) (second .float3 .ensures) (third .float4 .ensures))
+    (c .with-numbers .ensures ∙ ap (λ (left : Signed). numbers 19 left (second .float3 .result) (third .float4 .result)) (first .float2 .ensures) ∙ ap₂ (numbers 19 _) (second .float3 .ensures) (third .float4 .ensures))
     (first .before .before .answer2 .given .1)
     refl
 
