@@ -13,6 +13,8 @@ from reference import (
 
 KNOTS, VALUES, SLOPES = (0, 2, 5), (7, 9, 9), (256, 0, 0)
 BEND = (9, 7, 7)  # values with which the first piece bends
+S = 8
+UNLIKE = (0, 3, 5), (7, 17, 17), (10, 0, 0)  # a table that is accepted where a slope is a whole value, and in finer units, and has other values there
 LEAST, MOST = -(2**63), 2**63 - 1
 
 
@@ -72,23 +74,32 @@ def given(refused):
     return "0 0" if refused is None else "{} {}".format(*re.findall("[0-9]+", refused)[:2])
 
 
-def at(values, position):
-    table = KNOTS, values, SLOPES
+def at(s, knots, values, slopes, position):
+    table = s, knots, values, slopes
     refused = evaluation_refusal(*table, position)
-    yield f"locate {position} {given(refused)} {0 if refused else piece_at(KNOTS, position)}"
-    yield f"evaluate {position} {given(refused)} {0 if refused else value_at(*table, position)} "
+    yield f"locate {s} {position} {given(refused)} {0 if refused else piece_at(knots, position)}"
+    yield f"evaluate {s} {position} {given(refused)} {0 if refused else value_at(*table, position)}"
     refused = drive_refusal(*table, position)
     kind, level, *_ = ("dwell", 0) if refused else drive_at(*table, position)
     told = "dwell at 0" if (kind, level) == ("dwell", 0) else kind
-    yield f"float_answer {position} {given(refused)} {told}"
+    yield f"float_answer {s} {position} {given(refused)} {told}"
+
+
+def asked(s, *lists):
+    """Whether the points are refused, and the table, and what is answered at each of some positions in it and outside."""
+    yield f"points {s} {given(build_refusal(s, *lists))}"
+    yield f"check {s} {given(check_refusal(s, *lists))}"
+    for position in (0, 2, 5, 6, -1):
+        yield from at(s, *lists, position)
 
 
 def tables():
-    yield f"points {given(build_refusal(KNOTS, VALUES, SLOPES))} "
-    yield f"check {given(check_refusal(KNOTS, VALUES, SLOPES))} "
-    for position in (0, 2, 5, 6, -1):
-        yield from at(VALUES, position)
-    yield from at(BEND, 3)
+    yield from asked(S, KNOTS, VALUES, SLOPES)
+    yield from at(S, KNOTS, BEND, SLOPES, 3)
+    for s in (0, 4, 9, 2**32 - 1):
+        knots, values, slopes = UNLIKE
+        yield from asked(s, knots, values, slopes)
+        yield from asked(s, knots, values, slopes[:2])
 
 
 def pieces():
@@ -96,7 +107,7 @@ def pieces():
     for count in (2, 3, 4, 5, 31, 32, 33, 1023, 1024):
         knots, level = tuple(accumulate(islice(cycle((1, 2, 3)), count - 1), initial=1)), (0,) * count
         for position in range(2 * count + 1):
-            refused = evaluation_refusal(knots, level, level, position)
+            refused = evaluation_refusal(S, knots, level, level, position)
             yield f"locate {position} of {count} points {given(refused)} {0 if refused else piece_at(knots, position)}"
 
 

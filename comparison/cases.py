@@ -14,6 +14,7 @@ import language
 import pieces
 import rows
 import tables
+import units
 
 FIRST_EXAMPLE = Path(__file__).resolve().parent.parent / "examples" / "first.txt"
 GROUPS = (
@@ -41,6 +42,7 @@ GROUPS = (
     ("Each point of 2 to 7 changed, and changed to what it is.", changes.near_the_ends),
     ("The third point from either end raised and lowered.", changes.third_points),
     ("Points near the ends, changed again and again.", changes.chains_near_the_ends),
+    *units.GROUPS,
 )
 
 

@@ -7,7 +7,7 @@ from itertools import product
 
 from dice import Dice, I32_MAX, I32_MIN, I64_MAX, I64_MIN
 from evaluations import any_positions, table
-from reference import LARGEST_RISE, WIDEST, change_refusal, replaced
+from reference import FIRST_S, LARGEST_RISE, WIDEST, change_refusal, replaced
 from tables import (
     BUILD_AND_SHOW, PAST_FLOATS, SHOW_ALL, TEN_RISES, TEN_WIDTHS,
     any_rise, any_width, digits, row, somewhere, sums, with_step,
@@ -441,7 +441,7 @@ def any_change(dice, knots, values):
 
 def after(knots, values, *numbers):
     """The knots and the values that a change leaves, refused or not."""
-    if change_refusal(knots, values, [0] * len(knots), *numbers):
+    if change_refusal(FIRST_S, knots, values, [0] * len(knots), *numbers):
         return knots, values
     point, knot, value = numbers
     return replaced(knots, point, knot), replaced(values, point, value)
@@ -468,15 +468,20 @@ def built(knots, values):
     return *table(knots, values, digits(len(knots))), *BUILD_AND_SHOW
 
 
+def chain(dice, count, length):
+    """A table of so many points, built and then changed so many times. The build at last finds the slopes as they are."""
+    knots, values = by_steps(dice, count)
+    yield from built(knots, values)
+    for numbers in any_changes(dice, knots, values, length):
+        yield from change_and_show(*numbers)
+    yield from BUILD_AND_SHOW
+
+
 def chains():
-    """Tables of 2 to 40 points, built and then changed many times. The build at last finds the slopes as they are."""
+    """Tables of 2 to 40 points."""
     dice = Dice(33)
     for count, length in ((2, 12), (2, 8), (3, 12), (3, 8), (4, 12), (5, 12), (6, 16), (24, 16), (40, 20)):
-        knots, values = by_steps(dice, count)
-        yield from built(knots, values)
-        for numbers in any_changes(dice, knots, values, length):
-            yield from change_and_show(*numbers)
-        yield from BUILD_AND_SHOW
+        yield from chain(dice, count, length)
 
 
 def again_and_again():

@@ -6,6 +6,7 @@ from reference import (
     build_refusal, built_slopes, change_refusal, changed_table, check_refusal, drive_at, drive_refusal, evaluation_refusal, value_at,
 )
 
+S = 8  # the controller's slopes are in 1/256
 KNOTS, VALUES = (0, 4, 8, 10, 16), (0, -40, -40, -25, 0)
 SUPPLIED = (-2560, 0, 0, 6000, 1066)
 CHANGES = ((3, 11, -20), (3, 8, -20), (5, 20, 0))
@@ -49,23 +50,23 @@ def changes(*table):
     for change in CHANGES:
         refusal = change_refusal(*table, *change)
         if refusal is None:
-            table = changed_table(*table, *change)
+            table = S, *changed_table(*table, *change)
         yield answer("change", refusal)
-        yield shown(table[2])
+        yield shown(table[3])
 
 
 def lines():
-    slopes = built_slopes(KNOTS, VALUES)
-    table = KNOTS, VALUES, slopes
+    slopes = built_slopes(S, KNOTS, VALUES)
+    table = S, KNOTS, VALUES, slopes
     yield answer("build", build_refusal(*table))
     yield shown(slopes)
     yield answer("check", check_refusal(*table))
     yield from arm(*table)
     for position in (1, 6, 17):
         yield told(*table, position=position)
-    yield answer("supplier's slopes", check_refusal(KNOTS, VALUES, SUPPLIED))
+    yield answer("supplier's slopes", check_refusal(S, KNOTS, VALUES, SUPPLIED))
     yield from changes(*table)
-    yield answer("far knots", build_refusal(FAR_KNOTS, (0, 0), (0, 0)))
+    yield answer("far knots", build_refusal(S, FAR_KNOTS, (0, 0), (0, 0)))
 
 
 for line in lines():

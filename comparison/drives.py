@@ -7,7 +7,7 @@ from itertools import cycle, islice, product
 from dice import Dice, I32_MAX, I32_MIN
 from evaluations import any_positions, beside, piece_as_table, proposed, table
 from pieces import FIGURES, right_slopes_at_border
-from reference import LARGEST_IN_FLOATS, LARGEST_RISE, UNIT, WIDEST, built_slopes, verdict
+from reference import FIRST_S, LARGEST_IN_FLOATS, LARGEST_RISE, WIDEST, built_slopes, unit, verdict
 from tables import FIVE_RISES, FIVE_WIDTHS, SHOW_ALL, TEN_RISES, TEN_WIDTHS, every_two, row, somewhere, sums, with_step
 
 
@@ -98,7 +98,7 @@ def left_knots():
     for width, rise in ((1, 10), (5, 100), (1024, 1000)):  # here a tenth of Z is a whole number of slopes
         yield row(b"knots", (-width, 0))
         for (a_tenths, b_tenths), sign in product(SIGNS, (1, -1)):
-            tenth = sign * UNIT * rise // (10 * width)
+            tenth = sign * unit(FIRST_S) * rise // (10 * width)
             yield from piece_as_table(30, sign * rise, a_tenths * tenth, b_tenths * tenth)
             yield from drive(-width, 1 - width)
 
@@ -113,7 +113,7 @@ def ends_of_32_bits():
                 sums(rises, I32_MIN), sums(falls, I32_MAX),
                 sums(rises, I32_MAX - sum(rises)), sums(falls, I32_MIN + sum(rises)),
             ):
-                yield from table(knots, values, built_slopes(knots, values))
+                yield from table(knots, values, built_slopes(FIRST_S, knots, values))
                 yield from drive(*knots, *(knot - 1 for knot in knots[1:]))
 
 
@@ -128,16 +128,21 @@ WIDTHS = sorted({
 })
 
 
+def at_the_limit(s, dice, width):
+    """Lines that drive pieces with the greatest rise that has room, one less and one more, rising and falling."""
+    yield row(b"knots", (0, width))
+    for step, sign in product((-1, 0, 1), (1, -1)):
+        rise = greatest_rise(width) + step
+        left, right = (dice.between(0, 3 * unit(s) * rise // width) for _ in range(2))
+        yield from piece_as_table(dice.between(-9, 9), sign * rise, sign * left, sign * right)
+        yield from drive(dice.between(0, width))
+
+
 def the_limit():
-    """The greatest rise with room, one less and one more, rising and falling, at many widths."""
+    """Such pieces of many widths."""
     dice = Dice(19)
     for width in WIDTHS:
-        yield row(b"knots", (0, width))
-        for step, sign in product((-1, 0, 1), (1, -1)):
-            rise = greatest_rise(width) + step
-            left, right = (dice.between(0, 3 * UNIT * rise // width) for _ in range(2))
-            yield from piece_as_table(dice.between(-9, 9), sign * rise, sign * left, sign * right)
-            yield from drive(dice.between(0, width))
+        yield from at_the_limit(FIRST_S, dice, width)
 
 
 def far_from_the_limit():
@@ -148,19 +153,19 @@ def far_from_the_limit():
     ):
         yield row(b"knots", (-1, width - 1))
         for sign in (1, -1):
-            yield from piece_as_table(3, sign * rise, sign * (UNIT * rise // width), 0)
+            yield from piece_as_table(3, sign * rise, sign * (unit(FIRST_S) * rise // width), 0)
             yield from drive(-1, width // 2, width - 1)
 
 
-def border_slopes(width, rise):
+def border_slopes(s, width, rise):
     """The least and the greatest right slope that a rising piece is accepted with, for left slopes up to the steepest.
 
     These come in hundredths of the straight line's slope. 3Z - 2a - b is largest in size at 373 with the greatest.
     """
     for hundredths in (0, 100, 200, 300, 373, 400):
-        left = hundredths * UNIT * rise // (100 * width)
-        rights = right_slopes_at_border(width, rise, left)
-        taken = [right for right in rights if verdict(width, rise, left, right) == "rising"]
+        left = hundredths * unit(s) * rise // (100 * width)
+        rights = right_slopes_at_border(s, width, rise, left)
+        taken = [right for right in rights if verdict(s, width, rise, left, right) == "rising"]
         if taken:
             yield from ((left, taken[0]), (left, taken[-1]))
 
@@ -171,7 +176,7 @@ def steepest():
     for width in (1, 101, 102, 512, 1023, 1024):
         rise = greatest_rise(width)
         yield row(b"knots", (7, 7 + width))
-        for (left, right), sign in product(border_slopes(width, rise), (1, -1)):
+        for (left, right), sign in product(border_slopes(FIRST_S, width, rise), (1, -1)):
             yield from piece_as_table(dice.between(-99, 99), sign * rise, sign * left, sign * right)
             yield from drive(7, 7 + dice.between(1, width))
 
@@ -198,7 +203,7 @@ def last_pieces():
     for pieces in product(KINDS, repeat=2):
         widths, rises = zip(*pieces)
         knots = sums(widths)
-        yield from table(knots, sums(rises, dice.between(-99, 99)), proposed(dice, widths, rises))
+        yield from table(knots, sums(rises, dice.between(-99, 99)), proposed(FIRST_S, dice, widths, rises))
         yield from drive(knots[1] - 1, knots[1], knots[2])
 
 
@@ -315,7 +320,7 @@ def most_points():
     """1024 points with slopes by chance: at knots all over them, and anywhere. Then one slope is against its rise."""
     dice = Dice(22)
     widths, rises = zip(*(any_step(dice) for _ in range(1023)))
-    knots, values, slopes = sums(widths, -250000), sums(rises), proposed(dice, widths, rises)
+    knots, values, slopes = sums(widths, -250000), sums(rises), proposed(FIRST_S, dice, widths, rises)
     yield from table(knots, values, slopes)
     yield from drive(*beside(knots[place] for place in (0, 1, 255, 256, 511, 512, 513, 767, 1021, 1022, 1023)))
     yield from at_and_drive(*any_positions(dice, knots, 100))
@@ -329,7 +334,7 @@ def each_knot():
         knots, values = (
             sums(islice(cycle(steps), count - 1), -700) for steps in ((1, 4, 2, 3, 1, 7), (sign * 5, sign, sign * 3))
         )
-        yield from table(knots, values, built_slopes(knots, values))
+        yield from table(knots, values, built_slopes(FIRST_S, knots, values))
         yield from drive(*beside(knots))
 
 
@@ -353,7 +358,7 @@ def by_chance():
         widths, rises = zip(*(any_step(dice) for _ in range(count)))
         if dice.between(0, 1):
             rises = [abs(rise) for rise in rises]  # no change of sign, so that inner slopes are not 0
-        knots, slopes = somewhere(dice, widths), proposed(dice, widths, rises)
+        knots, slopes = somewhere(dice, widths), proposed(FIRST_S, dice, widths, rises)
         if dice.between(0, 9) == 0:
             slopes[dice.between(0, count)] += dice.between(-2000, 2000)
         yield from table(knots, somewhere(dice, rises), slopes)

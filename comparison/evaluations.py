@@ -6,7 +6,7 @@ from itertools import combinations, product
 
 from dice import Dice, I32_MAX, I32_MIN
 from pieces import FIGURES, right_slopes_at_border
-from reference import LARGEST_RISE, UNIT, WIDEST, built_slopes
+from reference import FIRST_S, LARGEST_RISE, WIDEST, built_slopes, unit
 from tables import (
     FIVE_RISES, FIVE_WIDTHS, NAMES, SHOW_ALL, TEN_RISES, TEN_WIDTHS,
     digits, rounded, row, somewhere, sums, wave, with_step,
@@ -82,9 +82,9 @@ def piece_as_table(first, rise, left, right):
     return row(b"values", (first, first + rise)), row(b"slopes", (left, right))
 
 
-def corner_slopes(width, rise):
+def corner_slopes(s, width, rise):
     """The slopes of a rising piece at each of those points, as near as whole slopes come."""
-    return [tuple(halves * UNIT * rise // (2 * width) for halves in point) for point in ACCEPTED]
+    return [tuple(halves * unit(s) * rise // (2 * width) for halves in point) for point in ACCEPTED]
 
 
 def small_pieces():
@@ -93,7 +93,7 @@ def small_pieces():
     for width in (2, 3, 4, 5, 7):
         yield row(b"knots", (0, width))
         for rise in (1, 10):
-            for left, right in corner_slopes(width, rise):
+            for left, right in corner_slopes(FIRST_S, width, rise):
                 for sign in (1, -1):
                     yield from piece_as_table(dice.between(-12, 12), sign * rise, sign * left, sign * right)
                     yield from check_and_at(*range(width + 1))
@@ -107,7 +107,7 @@ def largest_pieces():
     ):
         yield row(b"knots", (-1, width - 1))
         positions = sorted({step - 1 for step in (0, 1, width // 3, width // 2, width - 1, width)})
-        for left, right in corner_slopes(width, rise):
+        for left, right in corner_slopes(FIRST_S, width, rise):
             yield from piece_as_table(I32_MIN, rise, left, right)
             yield from check_and_at(*positions)
             yield from piece_as_table(I32_MAX, -rise, -left, -right)
@@ -124,56 +124,69 @@ def ends_of_32_bits():
                 sums(rises, I32_MIN), sums(falls, I32_MAX),
                 sums(rises, I32_MAX - sum(rises)), sums(falls, I32_MIN + sum(rises)),
             ):
-                yield from table(knots, values, built_slopes(knots, values))
+                yield from table(knots, values, built_slopes(FIRST_S, knots, values))
                 yield from check_and_at(*beside(knots))
 
 
-def quotient(width, rise, left, right, t):
+def quotient(s, width, rise, left, right, t):
     """Document 01's quotient at a position of a piece, as its two sides."""
-    Z, a, b = UNIT * rise, left * width, right * width
-    return a * t * width**2 + (3 * Z - 2 * a - b) * t**2 * width + (a + b - 2 * Z) * t**3, UNIT * width**3
+    Z, a, b = unit(s) * rise, left * width, right * width
+    return a * t * width**2 + (3 * Z - 2 * a - b) * t**2 * width + (a + b - 2 * Z) * t**3, unit(s) * width**3
+
+
+def pieces_to_round(s, dice, wanted, where_is):
+    """Rising pieces with an inner position, as width, rise, slopes and the position: so many as are wanted of each kind that the quotient there is of."""
+    while any(wanted.values()):
+        width, rise = 1 + dice.up_to_any_size(WIDEST - 1), dice.up_to_any_size(LARGEST_RISE)
+        steepest, t = 3 * unit(s) * rise // width, dice.between(1, width - 1)
+        left, right = dice.between(0, steepest), dice.between(0, steepest)
+        where = where_is(*quotient(s, width, rise, left, right, t))
+        if left != right and wanted.get(where):
+            wanted[where] -= 1
+            yield width, rise, left, right, t
+
+
+def beside_a_whole(over, under):
+    """Whether a quotient is whole, just above a whole number, just below, or none of these."""
+    return rounded(over, under)[1]
+
+
+def beside_a_half(over, under):
+    """The same of a half."""
+    return beside_a_whole(2 * over + under, 2 * under)
+
+
+def rising_and_falling(dice, width, rise, left, right, t):
+    """Lines that check such a piece and evaluate it at its position, which is the count 0, and then its mirror image."""
+    yield row(b"knots", (-t, width - t))
+    for sign in (1, -1):
+        yield from piece_as_table(dice.between(-9, 9), sign * rise, sign * left, sign * right)
+        yield from check_and_at(0)
 
 
 def rounding():
     """Inner positions where the quotient is whole, or just above a whole number, or just below, rising and falling."""
     dice = Dice(14)
-    wanted = {"whole": 12, "above": 12, "below": 12}
-    while any(wanted.values()):
-        width, rise = 1 + dice.up_to_any_size(WIDEST - 1), dice.up_to_any_size(LARGEST_RISE)
-        steepest, t = 3 * UNIT * rise // width, dice.between(1, width - 1)
-        left, right = dice.between(0, steepest), dice.between(0, steepest)
-        _, where = rounded(*quotient(width, rise, left, right, t))
-        if left != right and wanted.get(where):
-            wanted[where] -= 1
-            yield row(b"knots", (-t, width - t))
-            for sign in (1, -1):
-                yield from piece_as_table(dice.between(-9, 9), sign * rise, sign * left, sign * right)
-                yield from check_and_at(0)
+    for numbers in pieces_to_round(FIRST_S, dice, {"whole": 12, "above": 12, "below": 12}, beside_a_whole):
+        yield from rising_and_falling(dice, *numbers)
+
+
+def halfway(s, width, rise):
+    """Lines that evaluate a piece with the same slope at both ends halfway along, from an even and an odd value on either side of 0, rising and falling."""
+    yield row(b"knots", (0, width))
+    for sign, value in product((1, -1), (-2, -1, 0, 1)):
+        slope = sign * (unit(s) * rise // width)
+        yield from piece_as_table(value, sign * rise, slope, slope)
+        yield from check_and_at(width // 2)
 
 
 def halves():
-    """Inner positions where the value is a half, halfway along pieces with the same slope at both ends, from an even and an odd value on
-    either side of 0; or just above a half, or just below. Rising and falling."""
+    """Inner positions where the value is a half, or just above a half, or just below. Rising and falling."""
     for width, rise in product((2, 6, WIDEST), (1, 3, 1025, LARGEST_RISE - 1)):
-        yield row(b"knots", (0, width))
-        for sign, value in product((1, -1), (-2, -1, 0, 1)):
-            slope = sign * (UNIT * rise // width)
-            yield from piece_as_table(value, sign * rise, slope, slope)
-            yield from check_and_at(width // 2)
+        yield from halfway(FIRST_S, width, rise)
     dice = Dice(18)
-    wanted = {"above": 12, "below": 12}
-    while any(wanted.values()):
-        width, rise = 1 + dice.up_to_any_size(WIDEST - 1), dice.up_to_any_size(LARGEST_RISE)
-        steepest, t = 3 * UNIT * rise // width, dice.between(1, width - 1)
-        left, right = dice.between(0, steepest), dice.between(0, steepest)
-        over, under = quotient(width, rise, left, right, t)
-        _, where = rounded(2 * over + under, 2 * under)
-        if left != right and wanted.get(where):
-            wanted[where] -= 1
-            yield row(b"knots", (-t, width - t))
-            for sign in (1, -1):
-                yield from piece_as_table(dice.between(-9, 9), sign * rise, sign * left, sign * right)
-                yield from check_and_at(0)
+    for numbers in pieces_to_round(FIRST_S, dice, {"above": 12, "below": 12}, beside_a_half):
+        yield from rising_and_falling(dice, *numbers)
 
 
 def halves_past_floats():
@@ -213,13 +226,13 @@ def border():
     """Two points, with slopes at the border of what is accepted and beside it."""
     dice = Dice(15)
     for width, rise in ((1, 1), (2, 3), (7, 1000), (1024, 5), (1023, LARGEST_RISE), (1024, LARGEST_RISE)):
-        three, four = 3 * UNIT * rise // width, 4 * UNIT * rise // width
+        three, four = (times * unit(FIRST_S) * rise // width for times in (3, 4))
         lefts = (dice.between(0, three), dice.between(three, four), four)
         yield row(b"knots", (0, width))
         for sign in (1, -1):
             yield row(b"values", (0, sign * rise))
             for left in lefts:
-                for right in right_slopes_at_border(width, rise, left):
+                for right in right_slopes_at_border(FIRST_S, width, rise, left):
                     yield row(b"slopes", (sign * left, sign * right))
                     yield from check_and_at(width // 2)
 
@@ -295,7 +308,7 @@ def order_of_causes():
     """Bad widths, bad rises and pieces that bend, early and late, or none, and positions inside and outside."""
     all_knots = [sums(TEN_WIDTHS), *(sums(with_step(TEN_WIDTHS, place, 0)) for place in (0, 5, 9))]
     all_values = [sums(TEN_RISES), *(sums(with_step(TEN_RISES, place, 1048577)) for place in (0, 5, 9))]
-    built = built_slopes(all_knots[0], all_values[0])
+    built = built_slopes(FIRST_S, all_knots[0], all_values[0])
     all_slopes = [built, *(with_step(built, point, slope) for point, slope in ((0, -1), (5, -1), (10, 1)))]
     for knots, values, slopes in product(all_knots, all_values, all_slopes):
         yield from table(knots, values, slopes)
@@ -385,12 +398,12 @@ def small_counts():
         yield from check_and_at(-1, 0, count - 1, count)
 
 
-def proposed(dice, widths, rises):
+def proposed(s, dice, widths, rises):
     """Slopes with which these pieces are accepted: up to three times the gentler, or 0 between a rise and a fall."""
     pieces, slopes = list(zip(widths, rises)), []
     for point in range(len(pieces) + 1):
         around = pieces[max(point - 1, 0) : point + 1]
-        slope = dice.between(0, min(3 * UNIT * abs(rise) // width for width, rise in around))
+        slope = dice.between(0, min(3 * unit(s) * abs(rise) // width for width, rise in around))
         if all(rise > 0 for _, rise in around):
             slopes.append(slope)
         else:
@@ -407,7 +420,7 @@ def most_points():
     dice = Dice(16)
     widths = [dice.up_to_any_size(WIDEST) for _ in range(1023)]
     rises = [(-1) ** (place // 7) * dice.up_to_any_size(9999) for place in range(1023)]
-    knots, values, slopes = sums(widths, -50000), sums(rises), proposed(dice, widths, rises)
+    knots, values, slopes = sums(widths, -50000), sums(rises), proposed(FIRST_S, dice, widths, rises)
     yield from table(knots, values, slopes)
     yield from check_and_at(*beside(knots[place] for place in (0, 1, 255, 256, 511, 512, 513, 1022, 1023)))
     yield from check_and_at(*any_positions(dice, knots, 20))
@@ -446,7 +459,7 @@ def by_chance():
         widths = [dice.up_to_any_size(WIDEST) for _ in range(count)]
         first, run = dice.between(0, 1), dice.between(1, 3)
         rises = [(-1) ** (first + place // run) * dice.up_to_any_size(LARGEST_RISE) for place in range(count)]
-        knots, slopes = somewhere(dice, widths), proposed(dice, widths, rises)
+        knots, slopes = somewhere(dice, widths), proposed(FIRST_S, dice, widths, rises)
         if dice.between(0, 3) == 0:
             slopes[dice.between(0, count)] += dice.between(-2000, 2000)
         yield from table(knots, somewhere(dice, rises), slopes)

@@ -11,20 +11,22 @@ from tables import NAMES, end_figures, row
 FIRST = 150  # lines of each group, of which the few cases are taken
 SHORT = 150  # bytes that such a case has, with its lists
 FEW = 2  # cases of one form
-AFTER = {b"build": b"show slopes\n", b"change": b"show knots\nshow values\nshow slopes\n"}  # what a case is followed by
+WRITTEN = {b"build": NAMES[2:], b"change": NAMES, b"unit": (b"unit",)}  # what a command may write: it is shown after such a case
 
 
 def few_cases():
-    """Of each command and each form of its answer the first lines, each with the lists that it needs before it."""
-    few, seen, lent = [cases.FIRST_EXAMPLE.read_bytes(), *unlike_pieces(), *unlike_ends(), *left_behind()], Counter(), {}
+    """Of each command and each form of its answer the first lines, each with the unit and the lists that it needs before it."""
+    few = [cases.FIRST_EXAMPLE.read_bytes(), *unlike_pieces(), *unlike_ends(), *left_behind(), *unlike_units()]
+    seen, lent = Counter(), {}
     for line, lists, answer in answered_lines():
         command = reference.words_of(line)[0]
-        form = command, re.sub("[0-9]+", "", answer)
+        form = command in reference.COMMANDS and command, re.sub("[0-9]+", "", answer)
         if len(line) + sum(map(len, lists.values())) <= SHORT and seen[form] < FEW:
             seen[form] += 1
             few.extend(lists[name] for name in lists if lists[name] != lent.get(name))
-            few.append(line + b"\n" + AFTER.get(command, b""))
-            lent = {} if command in AFTER else lists
+            written = WRITTEN.get(command, ())
+            few.append(line + b"\n" + b"".join(b"show %b\n" % name for name in written))
+            lent = {name: lists[name] for name in lists if name not in written}
     return b"".join(few)
 
 
@@ -54,12 +56,23 @@ def left_behind():
     yield b"knots 0 1\nvalues 0 1\nslopes 0 0\nbuild\nshow slopes\n"
 
 
+def unlike_units():
+    """A table in several units: built, changed, asked, and in a unit that is refused. A piece at the border of each, and the drive's limit."""
+    yield b"knots 0 3 5 6\nvalues 0 10 11 -9\nslopes 1 2 3 4\n"
+    for s in (0, 3, 9):
+        yield b"unit %d\nbuild\nshow slopes\ncheck\nat 1\nat 2\ndrive 1\ndrive 7\nchange 1 3 7\nshow slopes\nchange 1 3 10\n" % s
+        steepest = 3 * 2 ** min(s, 8)
+        yield b"piece 1 1 %d %d\npiece 1 1 %d %d\n" % (steepest, steepest, steepest + 1, steepest)
+    yield b"unit 0\nknots 0 1024\nvalues 0 1025\nslopes 0 0\ndrive 5\nvalues 0 1024\ndrive 5\nunit 8\n"
+
+
 def answered_lines():
-    """Lines of each group, with the lists before it and the answer, but for those that set or show a list."""
+    """Lines of each group, with the unit and the lists before it and the answer, but for those that set or show a list."""
     workbench = reference.Workbench()
     for _, group in cases.GROUPS:
         for line in islice(group(), FIRST):
             lists = {name: row(name, numbers) + b"\n" for name, numbers in workbench.lists.items()}
+            lists[b"unit"] = b"unit %d\n" % workbench.s
             answer = workbench.answer(line.removesuffix(b"\r"))
             if answer is not None and len(line) <= SHORT and reference.words_of(line)[0] not in (b"show", *NAMES):
                 yield line, lists, answer

@@ -7,7 +7,7 @@ the generator changes what is asked for. The figures are a little below the pres
 import re
 from collections import Counter
 
-from reference import Workbench, lines_of
+from reference import is_silent, lines_of
 from stored import CASES, EXAMPLE, HERE, read
 
 LIST = "groups.txt"
@@ -46,10 +46,10 @@ def grouped(cases, example):
 
 
 def counted(cases, example):
-    """Of each group how many of its lines the reference answers, and how many bytes it has: some are a few long lines, or many empty ones."""
-    workbench, lines, size = Workbench(), Counter(), Counter()
+    """Of each group how many of its lines are answered, and how many bytes it has: some are a few long lines, or many empty ones."""
+    lines, size = Counter(), Counter()
     for title, line in grouped(cases, example):
-        lines[title] += workbench.answer(line) is not None
+        lines[title] += not is_silent(line)
         size[title] += len(line) + 1
     return {title: (lines[title], size[title]) for title in lines}
 

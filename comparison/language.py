@@ -105,17 +105,21 @@ def each_number(word):
     yield from (b"change %b 9999 1" % word, b"change 4 %b 1" % word, b"change 4 1 %b" % word)
 
 
+NOT_DECIMAL = (
+    b"+1", b"1.0", b"--1", b"-", b"1e3", b"0x10", b"1_0", b"1-", b"-+1", b"x", b"1,000", b"0-1",
+    b"\xd9\xa1", b"\xe2\x88\x921", b"1\xff", b"1\x00", b"\x0b1", b"/", b":", b"1/1", b"1;", b"\xb9",
+    b"99999999999999999999x",
+)
+ODD_BUT_DECIMAL = (b"0", b"-0", b"00", b"-000", b"01", b"0000000001", b"-01", b"0" * 30 + b"1", b"0" * 400 + b"1")
+
+
 def not_decimal():
-    for word in (
-        b"+1", b"1.0", b"--1", b"-", b"1e3", b"0x10", b"1_0", b"1-", b"-+1", b"x", b"1,000", b"0-1",
-        b"\xd9\xa1", b"\xe2\x88\x921", b"1\xff", b"1\x00", b"\x0b1", b"/", b":", b"1/1", b"1;", b"\xb9",
-        b"99999999999999999999x",
-    ):
+    for word in NOT_DECIMAL:
         yield from each_number(word)
 
 
 def odd_but_decimal():
-    for word in (b"0", b"-0", b"00", b"-000", b"01", b"0000000001", b"-01", b"0" * 30 + b"1", b"0" * 400 + b"1"):
+    for word in ODD_BUT_DECIMAL:
         yield from each_number(word)
     yield b"piece 1 0 -0 -00"
     yield b"piece 0001 00 0000 -0000"

@@ -1,6 +1,6 @@
 """Pieces on which the program and the reference are compared."""
 from dice import Dice, I32_MAX, I32_MIN, I64_MAX, I64_MIN
-from reference import LARGEST_RISE, UNIT, WIDEST, verdict
+from reference import FIRST_S, LARGEST_RISE, WIDEST, unit, verdict
 
 
 def piece(width, rise, left, right):
@@ -45,41 +45,46 @@ def figures():
         yield piece(1, rise, 0, 0)
 
 
-def last_accepted(width, rise, left, inside, outside):
+def last_accepted(s, width, rise, left, inside, outside):
     """The last right slope that is accepted on the way from one that is to one that is not."""
     while abs(outside - inside) > 1:
         half = (inside + outside) // 2
-        if verdict(width, rise, left, half) == "rising":
+        if verdict(s, width, rise, left, half) == "rising":
             inside = half
         else:
             outside = half
     return inside
 
 
-def right_slopes_at_border(width, rise, left):
+def right_slopes_at_border(s, width, rise, left):
     """Right slopes around the least and the greatest accepted with this left slope.
 
     The accepted ones are an interval with b = (6Z - a)/2 inside. Near its ends in a, it can be too
     narrow for a whole slope; then those around it are taken.
     """
-    middle = (6 * UNIT * rise - left * width) // (2 * width)
-    if verdict(width, rise, left, middle) != "rising":
+    middle = (6 * unit(s) * rise - left * width) // (2 * width)
+    if verdict(s, width, rise, left, middle) != "rising":
         return range(middle - 1, middle + 3)
-    least = last_accepted(width, rise, left, middle, -1)
-    greatest = last_accepted(width, rise, left, middle, 4 * UNIT * rise // width + 1)
+    least = last_accepted(s, width, rise, left, middle, -1)
+    greatest = last_accepted(s, width, rise, left, middle, 4 * unit(s) * rise // width + 1)
     return sorted({*range(least - 2, least + 2), *range(greatest - 1, greatest + 3)})
+
+
+def at_the_border(s, dice, shapes):
+    """Slopes at the border of what is accepted of pieces of these widths and rises, and those beside them, as rising pieces."""
+    for width, rise in shapes:
+        three, four = 3 * unit(s) * rise // width, 4 * unit(s) * rise // width
+        lefts = (dice.between(0, four), three + dice.between(0, 2), dice.between(three, four), four)
+        for left in sorted(set(lefts)):
+            yield from ((width, rise, left, right) for right in right_slopes_at_border(s, width, rise, left))
 
 
 def border():
     dice = Dice(1)
     shapes = [(width, rise) for width in (1, 2, 3, 1023, 1024) for rise in (1, 3, 1000, LARGEST_RISE)]
     shapes += [(dice.up_to_any_size(WIDEST), dice.up_to_any_size(LARGEST_RISE)) for _ in range(30)]
-    for width, rise in shapes:
-        three, four = 3 * UNIT * rise // width, 4 * UNIT * rise // width
-        lefts = (dice.between(0, four), three + dice.between(0, 2), dice.between(three, four), four)
-        for left in sorted(set(lefts)):
-            for right in right_slopes_at_border(width, rise, left):
-                yield from both_signs(width, rise, left, right)
+    for numbers in at_the_border(FIRST_S, dice, shapes):
+        yield from both_signs(*numbers)
 
 
 # Points (a, b) in halves of Z: the corners of the accepted region, those of the box around it, and
@@ -98,7 +103,7 @@ SHAPES = (
 def corners():
     for width, rise in SHAPES:
         for a_halves, b_halves in CORNERS:
-            half = UNIT * rise // 2
+            half = unit(FIRST_S) * rise // 2
             yield from cross(width, rise, a_halves * half // width, b_halves * half // width)
 
 
@@ -111,7 +116,7 @@ LINES = (
 def lines():
     dice = Dice(2)
     for width, rise in SHAPES:
-        Z = UNIT * rise
+        Z = unit(FIRST_S) * rise
         for p, q, r in LINES:
             if q == 0:
                 left, right = r * Z // width, dice.between(0, 4 * Z // width)
@@ -183,7 +188,7 @@ def in_the_box():
     dice = Dice(4)
     for _ in range(200):
         width, rise = dice.up_to_any_size(WIDEST), dice.up_to_any_size(LARGEST_RISE)
-        highest = 4 * UNIT * rise // width
+        highest = 4 * unit(FIRST_S) * rise // width
         yield from both_signs(width, rise, dice.between(0, highest), dice.between(0, highest))
 
 

@@ -1,17 +1,22 @@
 """The reference held against what was worked out without it: the figures of documents 01 and 02, the
 definition tried at every fraction on small pieces, slopes and values found in other ways, the drive's
 answer worked out in floats, changes written entry by entry, the slopes that a change can alter found by
-trying, and lines whose answers were written by hand.
+trying, slopes in one unit held to those in another, and lines whose answers were written by hand.
 """
 from fractions import Fraction
-from itertools import product
+from itertools import cycle, product
 
 from dice import Dice, I32_MAX, I32_MIN
 from reference import (
-    LISTS, UNIT, Workbench, answers_to, built_slopes, changed_table, check_refusal, drive_at, drive_refusal, end_slope,
-    inner_slope, piece_at, refusal, secant_slope, value_at, verdict,
+    LISTS, Workbench, answers_to, built_slopes, changed_table, check_refusal, drive_at, drive_refusal, end_slope,
+    inner_slope, lines_of, piece_at, refusal, secant_slope, value_at, verdict,
 )
 from tables import at_the_borders
+
+# Of each s the unit, and the s of document 01.
+UNITS = (1, 2, 4, 8, 16, 32, 64, 128, 256)
+ALL = range(len(UNITS))
+S = 8
 
 # Copied from document 01, "Figures to hold against it".
 FIGURES = (
@@ -54,6 +59,38 @@ BORDER_FIGURES = (
     ((0, 1, 2, 3), (0, 1, 4, 3), [0, 384, 0, -768]),  # both ends of four points
     ((0, 1, 2, 3), (0, 1, 1, 1), [384, 0, 0, 0]),  # the end piece on the right has no rise, nor has its neighbour
     ((0, 1), (0, 1), [256, 256]),  # two points have the secant
+)
+
+# Request 8's: an s, a piece, and what it is where a slope is a whole value, or finer.
+UNIT_PIECES = (
+    (0, 1, 1, 3, 3, "rising"),
+    (0, 1, 1, 4, 1, "rising"),
+    (0, 1, 1, 4, 0, "bends"),
+    (0, 1, 1, 3, 4, "bends"),
+    (0, 1, -1, -3, -3, "falling"),
+    (0, 1, 0, 0, 0, "flat"),
+    (0, 1, 0, 1, -1, "bends"),
+    (1, 1, 1, 6, 6, "rising"),
+    (1, 1, 1, 6, 7, "bends"),
+    (4, 1, 1, 64, 16, "rising"),
+    (4, 1, 1, 64, 15, "bends"),
+    (7, 2, 1, 192, 192, "rising"),
+    (7, 2, 1, 193, 192, "bends"),
+)
+
+# An s, knots, values, and the slopes built, each worked out without the reference.
+UNIT_FIGURES = (
+    (0, (0, 1, 2), (0, 1, 4), [0, 1, 4]),
+    (1, (0, 1, 2), (0, 1, 4), [0, 3, 8]),
+    (4, (0, 1, 2), (0, 1, 4), [0, 24, 64]),
+    (7, (0, 1, 2), (0, 1, 4), [0, 192, 512]),
+    (0, (0, 3), (0, -10), [-3, -3]),
+    (3, (0, 3), (0, -10), [-26, -26]),  # -27 from -853 rounded down
+    (7, (0, 3), (0, -10), [-426, -426]),
+    (4, (0, 1, 3), (0, 1, 2), [18, 11, 2]),
+    (0, (0, 1, 3), (0, 1, 2), [1, 0, 0]),
+    (0, (0, 1, 2), (0, 1, -3), [3, 0, -6]),  # 768 for the bound of document 01's unit
+    (0, (0, 1, 2), (0, 1048576, 0), [2097152, 0, -2097152]),
 )
 
 # An end piece, its neighbour and the slope at the end, each with what a slip would give.
@@ -401,6 +438,62 @@ TABLE_LINES = (
     (b"knots 1 2".ljust(65537) + b"\nshow knots", b"? line 4: the line is longer than 65536 bytes\n0 1 2\n"),
 )
 
+NO_UNIT = b"refused 12 at 0: the slope unit is not in 0 to 8\n"
+BAD_UNIT = b"? line %d: number 1 is not in 0 to 4294967295\n"
+
+# Lines on the unit, which come after the same three.
+UNIT_LINES = (
+    (b"show unit\nunit 0\nshow unit\nunit 4294967295\nshow unit", b"8\nok\n0\nok\n4294967295\n"),
+    (b"unit 4\nbuild\nshow slopes\nunit 0\nshow slopes\nbuild\nshow slopes", b"ok\nok\n0 24 64\nok\n0 24 64\nok\n0 1 4\n"),
+    # Nothing is asked of the table, and the next call refuses it. That is asked first, and nothing is written.
+    (
+        b"unit 9\nbuild\ncheck\nat 1\nat 9\ndrive 1\nchange 1 1 2\nchange 3 1 2\npiece 1 1 1 1\npiece 0 1 1 1\npiece 1 1048577 1 1\n" + SHOW_ALL,
+        b"ok\n" + NO_UNIT * 10 + b"0 1 2\n0 1 4\n7 8 9\n",
+    ),
+    (
+        b"unit 4294967295\nvalues 0 1\nbuild\ncheck\nat 1\ndrive 1\nchange 1 1 2\nvalues\nknots\nslopes\nbuild\ncheck\nat 1\ndrive 1\nchange 1 1 2\nunit 8\nbuild",
+        b"ok\nok 2\n" + NO_UNIT * 5 + b"ok 0\n" * 3 + NO_UNIT * 5 + b"ok\nrefused 2 at 0: fewer than 2 or more than 1024 points\n",
+    ),
+    (
+        b"unit 9\nvalues 0 1\nbuild\nunit 7\nbuild\ncheck",
+        b"ok\nok 2\n" + NO_UNIT + b"ok\n" + b"refused 1 at 0: the lists' lengths differ\n" * 2,
+    ),
+    # Pieces, values and the drive in whole values. A half is told from what is beside it by a divisor that is odd too.
+    (b"unit 0\npiece 1 1 3 3\npiece 1 1 4 1\npiece 1 1 4 0\npiece 1 1 3 4", b"ok\nrising\nrising\nbends\nbends\n"),
+    (b"unit 0\nslopes 0 3 9\ncheck\nat 1\ndrive 1\ndrive 2", b"ok\nok 3\nok\n1\nmove 1 0 1\nmove 1 3 1\n"),
+    (b"unit 0\nslopes 0 4 0\ncheck", b"ok\nok 3\nrefused 5 at 0: a piece is not monotone\n"),
+    (
+        b"unit 0\nknots 0 3\nvalues 0 1\nslopes 1 1\nat 0\nat 1\nat 2\nat 3\ndrive 1\nvalues 0 -1\nslopes -1 -1\nat 1\ndrive 1",
+        b"ok\nok 2\nok 2\nok 2\n0\n0\n1\n1\nmove 0 13 27\nok 2\nok 2\n0\nmove 0 -13 27\n",
+    ),
+    (
+        b"unit 4\nknots 0 3\nvalues 0 1\nbuild\nslopes 0 0\nbuild\nshow slopes\ndrive 1",
+        b"ok\nok 2\nok 2\nrefused 1 at 0: the lists' lengths differ\nok 2\nok\n5 5\nmove 0 142 432\n",
+    ),
+    # The drive's limit is not in units.
+    (
+        b"unit 0\nknots 0 1024\nvalues 0 1025\nslopes 0 0\nat 512\ndrive 512\nvalues 0 1024\ndrive 512",
+        b"ok\nok 2\nok 2\nok 2\n513\nrefused 8 at 0: piece too large for the exact float answer\nok 2\nmove 0 549755813888 1073741824\n",
+    ),
+    # A change in another unit than the build's: what it renews is in the new one, and nothing else moves.
+    (
+        b"knots 0 1 2 3 4 5 6\nvalues 0 1 2 3 4 5 6\nslopes 0 0 0 0 0 0 0\nbuild\nunit 4\nchange 3 3 4\nshow slopes\nunit 8\nshow slopes",
+        b"ok 7\n" * 3 + b"ok\nok\nok\n256 256 21 0 0 256 256\nok\n256 256 21 0 0 256 256\n",
+    ),
+    # Faults of the line, which leave the unit as it was.
+    (
+        b"unit 5\nunit\nunit 1 2\nunit x y\nunit x\nunit +8\nunit -1\nunit 4294967296\nunit 99999999999999999999\nunit -99999999999999999999\nshow unit",
+        b"ok\n? line 5: too few words\n? line 6: too many words\n? line 7: too many words\n"
+        b"? line 8: number 1 is not a whole decimal number\n? line 9: number 1 is not a whole decimal number\n"
+        + BAD_UNIT % 10 + BAD_UNIT % 11 + BAD_UNIT % 12 + BAD_UNIT % 13 + b"5\n",
+    ),
+    (b"unit -0\nshow unit\nunit\t0007 \r\nshow unit\r\n", b"ok\n0\nok\n7\n"),
+    (
+        b"Unit 3\nunits 3\nshow Unit\nshow units\nshow unit 8\nshow unit",
+        b"? line 4: no such command\n? line 5: no such command\n? line 6: no such list\n? line 7: no such list\n? line 8: too many words\n8\n",
+    ),
+)
+
 
 def set_level(count):
     """Lines that set a level table of so many points."""
@@ -474,44 +567,44 @@ def verdict_by_trying(rise, Z, a, b, most):
 
 
 def small_pieces():
-    """Pieces with a and b in steps of UNIT/2 from below 0 to above 4Z, as width, rise, a, b."""
-    for width in (1, 2):
-        for rise in (-2, -1, 0, 1, 2):
-            sign = -1 if rise < 0 else 1
-            steps = [sign * step * UNIT // 2 for step in range(-1, 8 * abs(rise) + 2)]
-            yield from ((width, rise, a, b) for a in steps for b in steps)
+    """Pieces with a and b in steps of half a unit, or of a slope where that is more, from below 0 to above 4Z: as an s, width, rise and slopes."""
+    for s, rises in ((S, (-2, -1, 0, 1, 2)), (0, (-2, -1, 0, 1, 2)), (1, (-1, 1)), (4, (1,))):
+        for width, rise in product((1, 2), rises):
+            step = max(UNITS[s] // (2 * width), 1)
+            sign, most = (-1 if rise < 0 else 1), 4 * UNITS[s] * abs(rise) // (step * width)
+            slopes = [sign * step * count for count in range(-1, most + 2)]
+            yield from ((s, width, rise, left, right) for left in slopes for right in slopes)
 
 
 def piece_fault():
     """A sentence on the first piece that the reference judges wrongly, or None."""
-    for *numbers, expected in FIGURES:
+    for *numbers, expected in (*((S, *figure) for figure in FIGURES), *UNIT_PIECES):
         if verdict(*numbers) != expected:
-            return f"piece {numbers} is {expected} in document 01, and the reference says {verdict(*numbers)}"
-    for width, rise, a, b in small_pieces():
-        # In steps of UNIT/2, 3(a + b - 2Z) is at most 78, and so is the q of a vertex inside: if
-        # the expression is negative anywhere, it is so at a q up to 78.
-        tried = verdict_by_trying(rise, UNIT * rise, a, b, 78)
-        found = verdict(width, rise, a // width, b // width)
-        if found != tried:
-            piece = f"width {width}, rise {rise}, a {a}, b {b}"
-            return f"{piece} is {tried} by trying every fraction, and the reference says {found}"
+            return f"s and piece {numbers} are {expected} in the documents, and the reference says {verdict(*numbers)}"
+    for piece in small_pieces():
+        s, width, rise, left, right = piece
+        # In these steps 3(a + b - 2Z) is at most 78, and so is the q of a vertex inside: if the
+        # expression is negative anywhere, it is so at a q up to 78.
+        tried = verdict_by_trying(rise, UNITS[s] * rise, left * width, right * width, 78)
+        if verdict(*piece) != tried:
+            return f"s and piece {piece} are {tried} by trying every fraction, and the reference says {verdict(*piece)}"
     return None
 
 
-def inner_slope_by_counting(h1, z1, h2, z2):
+def inner_slope_by_counting(s, h1, z1, h2, z2):
     """For rises above 0: the last whole number, counted up from 0, that is not above document 01's quotient."""
     slope = 0
-    while (slope + 1) * ((h1 + 2 * h2) * h1 * z2 + (2 * h1 + h2) * h2 * z1) <= 768 * (h1 + h2) * z1 * z2:
+    while (slope + 1) * ((h1 + 2 * h2) * h1 * z2 + (2 * h1 + h2) * h2 * z1) <= 3 * UNITS[s] * (h1 + h2) * z1 * z2:
         slope += 1
     return slope
 
 
-def is_mean_rounded_down(slope, h1, z1, h2, z2):
+def is_mean_rounded_down(slope, s, h1, z1, h2, z2):
     """For rises above 0: whether the slope is the mean of Fritsch and Butland, rounded down.
 
     It is a weighted harmonic mean, 1/m = w/s1 + (1 - w)/s2, of the slopes s1 and s2 of the two pieces.
     """
-    s1, s2 = Fraction(UNIT * z1, h1), Fraction(UNIT * z2, h2)
+    s1, s2 = Fraction(UNITS[s] * z1, h1), Fraction(UNITS[s] * z2, h2)
     w = Fraction(h1 + 2 * h2, 3 * (h1 + h2))
     mean = 1 / (w / s1 + (1 - w) / s2)
     return slope <= mean < slope + 1
@@ -519,30 +612,31 @@ def is_mean_rounded_down(slope, h1, z1, h2, z2):
 
 def inner_slope_fault():
     """A sentence on the first slope at an inner point that is wrong, or None."""
-    for h1, z1, h2, z2 in product((1, 2, 3), (1, 2, 3), repeat=2):
-        if inner_slope(h1, z1, h2, z2) != inner_slope_by_counting(h1, z1, h2, z2):
-            return f"the slope between {h1, z1} and {h2, z2} is not the one found by counting"
-    for h1, z1, h2, z2 in product((1, 2, 3, 7, 500, 1023, 1024), (1, 2, 5, 999, 1048575, 1048576), repeat=2):
-        slope = inner_slope(h1, z1, h2, z2)
-        if not is_mean_rounded_down(slope, h1, z1, h2, z2):
-            return f"the slope between {h1, z1} and {h2, z2} is not the mean of Fritsch and Butland, rounded down"
-        if inner_slope(h1, -z1, h2, -z2) != -slope:
-            return f"the slope between {h1, -z1} and {h2, -z2} is not that between {h1, z1} and {h2, z2} with a minus"
-        if inner_slope(h1, -z1, h2, z2) or inner_slope(h1, z1, h2, -z2) or inner_slope(h1, 0, h2, z2):
-            return f"the slope between {h1, z1} and {h2, z2}, with one of them turned or level, is not 0"
+    for s, h1, z1, h2, z2 in product(ALL, *((1, 2, 3),) * 4):
+        if inner_slope(s, h1, z1, h2, z2) != inner_slope_by_counting(s, h1, z1, h2, z2):
+            return f"the slope between {h1, z1} and {h2, z2}, with s {s}, is not the one found by counting"
+    for s, pair in product(ALL, product((1, 3, 7, 1023, 1024), (1, 5, 999, 1048576), repeat=2)):
+        h1, z1, h2, z2 = pair
+        slope, there = inner_slope(s, *pair), f"the slope between {h1, z1} and {h2, z2}, with s {s},"
+        if not is_mean_rounded_down(slope, s, *pair):
+            return f"{there} is not the mean of Fritsch and Butland, rounded down"
+        if inner_slope(s, h1, -z1, h2, -z2) != -slope:
+            return f"{there} is not that of the other signs with a minus"
+        if inner_slope(s, h1, -z1, h2, z2) or inner_slope(s, h1, z1, h2, -z2) or inner_slope(s, h1, 0, h2, z2):
+            return f"{there} with one of them turned or level, is not 0"
     return None
 
 
 def secant_slope_fault():
     """A sentence on the first slope of two points that is wrong, or None."""
-    for width, rise in product((1, 2, 3, 7, 255, 256, 257, 1023, 1024), (0, 1, 2, 3, 5, 999, 1048575, 1048576)):
-        size = UNIT * rise // width
-        if (secant_slope(width, rise), secant_slope(width, -rise)) != (size, -size):
-            return f"the slope of two points of width {width} and rise {rise}, or {-rise}, is not {size} with its sign"
+    for s, width, rise in product(ALL, (1, 2, 3, 7, 255, 256, 257, 1023, 1024), (0, 1, 2, 3, 5, 999, 1048575, 1048576)):
+        size = UNITS[s] * rise // width
+        if (secant_slope(s, width, rise), secant_slope(s, width, -rise)) != (size, -size):
+            return f"the slope of two points of width {width} and rise {rise}, or {-rise}, with s {s}, is not {size} with its sign"
     return None
 
 
-def end_slope_in_wholes(h1, z1, h2, z2):
+def end_slope_in_wholes(s, h1, z1, h2, z2):
     """The slope at an end by one division of whole numbers, and without a look at the neighbour's sign, or at whether there is a rise.
 
     With equal signs the quotient stays below twice the secant, so that it never reaches the bound; and without a rise the bound is 0.
@@ -552,9 +646,9 @@ def end_slope_in_wholes(h1, z1, h2, z2):
     if above <= 0:
         size = 0
     elif above > 3 * rise * below:
-        size = 3 * UNIT * rise // h1
+        size = 3 * UNITS[s] * rise // h1
     else:
-        size = UNIT * above // (h1 * below)
+        size = UNITS[s] * above // (h1 * below)
     return size if z1 >= 0 else -size
 
 
@@ -574,17 +668,18 @@ def end_pieces():
 def end_slope_fault():
     """A sentence on the first slope at an end of three points or more that is wrong, or None."""
     for h1, z1, h2, z2, slope in END_FIGURES:
-        first, *_ = built_slopes((0, h1, h1 + h2), (0, z1, z1 + z2))
-        *_, last = built_slopes((0, h2, h1 + h2), (0, z2, z1 + z2))
-        if (end_slope(h1, z1, h2, z2), first, last) != (slope, slope, slope):
+        first, *_ = built_slopes(S, (0, h1, h1 + h2), (0, z1, z1 + z2))
+        *_, last = built_slopes(S, (0, h2, h1 + h2), (0, z2, z1 + z2))
+        if (end_slope(S, h1, z1, h2, z2), first, last) != (slope, slope, slope):
             return f"the slope at the end of {h1, z1} with the neighbour {h2, z2} is not {slope}, or not at both ends"
-    for piece in end_pieces():
+    for piece, other in zip(end_pieces(), cycle(ALL)):
         h1, z1, h2, z2 = piece
-        slope = end_slope(*piece)
-        if slope != end_slope_in_wholes(*piece):
-            return f"the slope at the end of {h1, z1} with the neighbour {h2, z2} is not the one that whole numbers give"
-        if end_slope(h1, -z1, h2, -z2) != -slope:
-            return f"the slope at the end of {h1, -z1} with the neighbour {h2, -z2} is not that of the other signs with a minus"
+        for s in {S, other}:
+            slope = end_slope(s, *piece)
+            if slope != end_slope_in_wholes(s, *piece):
+                return f"the slope at the end of {h1, z1} with the neighbour {h2, z2}, with s {s}, is not the one that whole numbers give"
+            if end_slope(s, h1, -z1, h2, -z2) != -slope:
+                return f"the slope at the end of {h1, -z1} with the neighbour {h2, -z2}, with s {s}, is not that of the other signs with a minus"
     return None
 
 
@@ -599,26 +694,52 @@ def table_fault():
     """A sentence on the first table whose slopes are wrong, or None."""
     for *piece, expected in FIGURES:
         width, rise, *slopes = piece
-        if (check_refusal((0, width), (0, rise), slopes) is None) == (expected == "bends"):
+        if (check_refusal(S, (0, width), (0, rise), slopes) is None) == (expected == "bends"):
             return f"piece {piece} is {expected} in document 01, and a check of it as a table says otherwise"
-    for knots, values, expected in (*BUILT_FIGURES, *BORDER_FIGURES):
-        if built_slopes(knots, values) != expected:
-            return f"knots {knots} and values {values} must have slopes {expected}, and do not in the reference"
-    for widths, rises in small_tables():
+    for s, knots, values, expected in (*((S, *figure) for figure in (*BUILT_FIGURES, *BORDER_FIGURES)), *UNIT_FIGURES):
+        if built_slopes(s, knots, values) != expected:
+            return f"knots {knots} and values {values} must have slopes {expected} with s {s}, and do not in the reference"
+    for (widths, rises), s in zip(small_tables(), cycle((S, 0, S, 1, S, 2, S, 3, S, 4, S, 5, S, 6, S, 7, S))):
         knots, values = ([sum(steps[:place]) for place in range(len(steps) + 1)] for steps in (widths, rises))
-        slopes = built_slopes(knots, values)
-        if check_refusal(knots, values, slopes):
-            return f"knots {knots}, values {values} with built slopes {slopes} are refused by a check"
+        slopes = built_slopes(s, knots, values)
+        if check_refusal(s, knots, values, slopes):
+            return f"knots {knots}, values {values} with slopes {slopes}, built with s {s}, are refused by a check"
         for place, (width, rise) in enumerate(zip(widths, rises)):
             monotone = "rising" if rise > 0 else "falling" if rise < 0 else "flat"
-            if verdict(width, rise, slopes[place], slopes[place + 1]) != monotone:
-                return f"piece {place} of knots {knots}, values {values}, built slopes {slopes} is not {monotone}"
+            if verdict(s, width, rise, slopes[place], slopes[place + 1]) != monotone:
+                return f"piece {place} of knots {knots}, values {values}, slopes {slopes}, built with s {s}, is not {monotone}"
     return None
 
 
-def numerator_by_line(width, rise, left_slope, right_slope, t):
+def built_points(cases):
+    """The knots and the values of every table that lines build or change. Other lines leave them as they are, and are not obeyed."""
+    workbench, found = Workbench(), set()
+    for line in lines_of(cases):
+        command = line.partition(b" ")[0]
+        if command in (*LISTS, b"unit", b"build", b"change") and workbench.answer(line) == "ok" and command != b"unit":
+            _, knots, values, _ = workbench.table()
+            found.add((tuple(knots), tuple(values)))
+    return sorted(found)
+
+
+def coarser_fault(cases):
+    """A sentence on the first table of the cases whose slopes in some unit are not those in the finest one, cut toward zero, or None.
+
+    This rests on no rule for a slope: rounding toward zero twice, and the second time from a multiple of the unit, is rounding once.
+    """
+    tables = built_points(cases)
+    for knots, values in tables:
+        finest = built_slopes(S, knots, values)
+        for s in ALL:
+            parts = UNITS[S] // UNITS[s]
+            if built_slopes(s, knots, values) != [abs(slope) // parts * (1 if slope > 0 else -1) for slope in finest]:
+                return f"knots {knots[:9]} and values {values[:9]}, {len(knots)} of them: with s {s} the slopes are not those with s {S}, cut toward zero"
+    return None if len(tables) >= 3500 else f"only {len(tables)} tables of the cases were built in each unit"
+
+
+def numerator_by_line(s, width, rise, left_slope, right_slope, t):
     """The numerator at T by document 01's line."""
-    Z, a, b = UNIT * rise, left_slope * width, right_slope * width
+    Z, a, b = UNITS[s] * rise, left_slope * width, right_slope * width
     return a * t * width**2 + (3 * Z - 2 * a - b) * t**2 * width + (a + b - 2 * Z) * t**3
 
 
@@ -627,31 +748,38 @@ def half_up(over, under):
     return (2 * over + under) // (2 * under)
 
 
-def value_by_line(width, rise, left_slope, right_slope, t):
+def value_by_line(s, width, rise, left_slope, right_slope, t):
     """Document 01's line: how far the value at T is above the left value."""
-    return half_up(numerator_by_line(width, rise, left_slope, right_slope, t), UNIT * width**3)
+    return half_up(numerator_by_line(s, width, rise, left_slope, right_slope, t), UNITS[s] * width**3)
+
+
+def in_units(shapes):
+    """All these shapes in document 01's unit, and a third of them in the others, in turn."""
+    shapes = list(shapes)
+    yield from ((S, shape) for shape in shapes)
+    yield from zip(cycle(ALL), shapes[::3])
 
 
 def monotone_pieces():
-    """Pieces that a check accepts, of all sizes, with a and b in halves of Z as near as whole slopes come."""
-    for width, rise in product((1, 2, 3, 7, 1023, 1024), (0, 1, 5, 999, 1048576)):
+    """Pieces that a check accepts, of all sizes, with a and b in halves of Z as near as whole slopes come, each behind its s."""
+    for s, (width, rise) in in_units(product((1, 2, 3, 7, 1023, 1024), (0, 1, 5, 999, 1048576))):
         for halves in product((0, 1, 2, 6, 8), repeat=2):
-            left, right = (half * UNIT * rise // (2 * width) for half in halves)
-            if verdict(width, rise, left, right) != "bends":
-                yield width, rise, left, right
-                yield width, -rise, -left, -right
+            left, right = (half * UNITS[s] * rise // (2 * width) for half in halves)
+            if verdict(s, width, rise, left, right) != "bends":
+                yield s, width, rise, left, right
+                yield s, width, -rise, -left, -right
 
 
 def value_fault():
     """A sentence on the first value that is wrong, or None."""
-    for width, rise, left, right in monotone_pieces():
-        table = (-5, width - 5), (7, 7 + rise), (left, right)
+    for s, width, rise, left, right in monotone_pieces():
+        table = s, (-5, width - 5), (7, 7 + rise), (left, right)
         steps = sorted({0, 1, 2, width // 3, width // 2, width - 1, width} & {*range(width + 1)})
         values = [value_at(*table, t - 5) for t in steps]
-        if values != [7 + value_by_line(width, rise, left, right, t) for t in steps]:
-            return f"knots, values and slopes {table} do not have the values of document 01's line"
+        if values != [7 + value_by_line(s, width, rise, left, right, t) for t in steps]:
+            return f"s, knots, values and slopes {table} do not have the values of document 01's line"
         if (values[0], values[-1]) != (7, 7 + rise) or values != sorted(values, reverse=rise < 0):
-            return f"knots, values and slopes {table} have values that do not go from the left one to the right one"
+            return f"s, knots, values and slopes {table} have values that do not go from the left one to the right one"
     return None
 
 
@@ -669,19 +797,19 @@ def float_limit_fault():
     for width, rise in GREATEST_IN_FLOATS:
         if greatest_in_floats(width) != rise:
             return f"the greatest rise for the drive at width {width} must be {rise}"
-    for width in range(1, 1025):
+    for width, s in zip(range(1, 1025), cycle(ALL)):
         greatest = greatest_in_floats(width)
         for rise in (greatest - 1, greatest, greatest + 1):
             expected = refusal(4, 0) if rise > 1048576 else refusal(8, 0) if rise > greatest else None
             for values in (0, rise), (0, -rise):
-                if drive_refusal((0, width), values, (0, 0), 0) != expected:
-                    return f"knots {0, width}, values {values}: the drive is not refused as it must be, {expected}"
+                if drive_refusal(s, (0, width), values, (0, 0), 0) != expected:
+                    return f"s {s}, knots {0, width}, values {values}: the drive is not refused as it must be, {expected}"
     return None
 
 
-def horner_steps(width, rise, left_slope, right_slope, t):
+def horner_steps(s, width, rise, left_slope, right_slope, t):
     """Every result on the way to the numerator by Horner's steps, and the numerator at the end. Floats give floats."""
-    Z, a, b = UNIT * rise, left_slope * width, right_slope * width
+    Z, a, b = UNITS[s] * rise, left_slope * width, right_slope * width
     third, second, first = (a + b - 2 * Z) * t, (3 * Z - 2 * a - b) * width, a * width * width
     inner = third + second
     outer = inner * t + first
@@ -689,37 +817,37 @@ def horner_steps(width, rise, left_slope, right_slope, t):
 
 
 def pieces_for_floats():
-    """Pieces that a check accepts, at the limit of the float answer and below it, of all shapes.
+    """Pieces that a check accepts, at the limit of the float answer and below it, of all shapes, each behind its s.
 
     a and b are in hundredths of Z, as near as whole slopes come. 3Z - 2a - b is largest in size at 3.73 and 2.
     """
     points = (*product((0, 50, 100, 200, 300, 400), repeat=2), (373, 200), (200, 373))
-    for width in (1, 2, 3, 7, 50, 101, 102, 103, 128, 200, 256, 341, 511, 512, 513, 777, 1000, 1023, 1024):
-        greatest = greatest_in_floats(width)
-        for rise in (greatest, greatest - 1, greatest * 2 // 3):
-            for point in points:
-                left, right = (hundredths * UNIT * rise // (100 * width) for hundredths in point)
-                if verdict(width, rise, left, right) != "bends":
-                    yield width, rise, left, right
-                    yield width, -rise, -left, -right
+    widths = (1, 2, 3, 7, 50, 101, 102, 103, 128, 200, 256, 341, 511, 512, 513, 777, 1000, 1023, 1024)
+    most = [(width, greatest_in_floats(width)) for width in widths]
+    for s, (width, rise) in in_units((width, rise) for width, great in most for rise in (great, great - 1, great * 2 // 3)):
+        for point in points:
+            left, right = (hundredths * UNITS[s] * rise // (100 * width) for hundredths in point)
+            if verdict(s, width, rise, left, right) != "bends":
+                yield s, width, rise, left, right
+                yield s, width, -rise, -left, -right
 
 
 def drive_fault():
     """A sentence on the first of the drive's numbers that is wrong, or that no float is, or None."""
     for piece in pieces_for_floats():
-        width, rise, left, right = piece
-        table = (-5, width - 5), (7, 7 + rise), (left, right)
+        s, width, rise, left, right = piece
+        table = s, (-5, width - 5), (7, 7 + rise), (left, right)
         for t in sorted({0, 1, width // 3, width // 2, width - 1, width}):
-            numbers = (7, numerator_by_line(*piece, t), UNIT * width**3)
+            numbers = (7, numerator_by_line(*piece, t), UNITS[s] * width**3)
             if drive_at(*table, t - 5) != ("move", *numbers):
-                return f"knots, values and slopes {table} do not have document 01's numerator at {t - 5}"
+                return f"s, knots, values and slopes {table} do not have document 01's numerator at {t - 5}"
             if any(int(float(number)) != number for number in numbers):
-                return f"knots, values and slopes {table} have a number at {t - 5} that is no 64-bit float"
-            wholes, floats = horner_steps(*piece, t), horner_steps(*map(float, piece), float(t))
+                return f"s, knots, values and slopes {table} have a number at {t - 5} that is no 64-bit float"
+            wholes, floats = horner_steps(*piece, t), horner_steps(s, *map(float, piece[1:]), float(t))
             if wholes[-1] != numbers[1] or any(int(step) != whole for step, whole in zip(floats, wholes)):
-                return f"knots, values and slopes {table} have a step at {t - 5} that floats do not give exactly"
+                return f"s, knots, values and slopes {table} have a step at {t - 5} that floats do not give exactly"
             if half_up(numbers[0] * numbers[2] + numbers[1], numbers[2]) != value_at(*table, t - 5):
-                return f"knots, values and slopes {table} have another value at {t - 5} than the drive's division gives"
+                return f"s, knots, values and slopes {table} have another value at {t - 5} than the drive's division gives"
     return None
 
 
@@ -736,15 +864,18 @@ def position_fault():
     return None
 
 
-def workbench_with(knots, values, slopes):
-    """A workbench that has these lists."""
+def workbench_with(s, knots, values, slopes):
+    """A workbench that has this unit and these lists."""
     workbench = Workbench()
+    workbench.s = s
     workbench.lists = dict(zip(LISTS, map(list, (knots, values, slopes))))
     return workbench
 
 
-def cause_by_cases(knots, values, slopes, point, knot, value):
+def cause_by_cases(s, knots, values, slopes, point, knot, value):
     """The number and the place of a change's refusal, or None: each piece asked by itself, and no list copied."""
+    if s not in ALL:
+        return 12, 0
     if len({len(knots), len(values), len(slopes)}) > 1:
         return 1, 0
     if len(slopes) in (0, 1) or len(slopes) > 1024:
@@ -771,7 +902,7 @@ def points_read(count, place):
     return range(first, min(first + 3, count))
 
 
-def end_by_parabola(knots, values, place):
+def end_by_parabola(s, knots, values, place):
     """The slope at an end: of all from 0 to three times the secant the one nearest to that of the parabola through the three points there."""
     near = 1 if place == 0 else place - 1
     steepest = 3 * Fraction(values[near] - values[place], knots[near] - knots[place])
@@ -781,10 +912,10 @@ def end_by_parabola(knots, values, place):
         Fraction(values[i] * (2 * knots[place] - knots[j] - knots[k]), (knots[i] - knots[j]) * (knots[i] - knots[k]))
         for i, j, k in ((one, two, three), (two, three, one), (three, one, two))
     )
-    return int(UNIT * sorted((0, parabola, steepest))[1])
+    return int(UNITS[s] * sorted((0, parabola, steepest))[1])
 
 
-def slope_by_cases(knots, values, place):
+def slope_by_cases(s, knots, values, place):
     """The slope that a build of good points gives to one of them: Fritsch and Butland's mean, or an end's, or the only piece's own."""
     if 0 < place < len(knots) - 1:
         h1, h2 = knots[place] - knots[place - 1], knots[place + 1] - knots[place]
@@ -792,24 +923,24 @@ def slope_by_cases(knots, values, place):
         if z1 == 0 or z2 == 0 or (z1 > 0) != (z2 > 0):
             return 0
         w = Fraction(h1 + 2 * h2, 3 * (h1 + h2))
-        size = 1 / (w * h1 / (UNIT * abs(z1)) + (1 - w) * h2 / (UNIT * abs(z2))) // 1
+        size = 1 / (w * h1 / (UNITS[s] * abs(z1)) + (1 - w) * h2 / (UNITS[s] * abs(z2))) // 1
         return size if z1 > 0 else -size
     if len(knots) > 2:
-        return end_by_parabola(knots, values, place)
+        return end_by_parabola(s, knots, values, place)
     width, rise = knots[1] - knots[0], values[1] - values[0]
-    return UNIT * rise // width if rise > 0 else -(UNIT * -rise // width)
+    return UNITS[s] * rise // width if rise > 0 else -(UNITS[s] * -rise // width)
 
 
-def change_by_cases(knots, values, slopes, point, knot, value):
+def change_by_cases(s, knots, values, slopes, point, knot, value):
     """The answer to a change, and the three lists after it, written entry by entry."""
-    cause = cause_by_cases(knots, values, slopes, point, knot, value)
+    cause = cause_by_cases(s, knots, values, slopes, point, knot, value)
     if cause is not None:
         return refusal(*cause), [knots, values, slopes]
     new_knots, new_values, new_slopes = list(knots), list(values), list(slopes)
     new_knots[point], new_values[point] = knot, value
     for place in range(len(slopes)):
         if point in points_read(len(slopes), place):
-            new_slopes[place] = slope_by_cases(new_knots, new_values, place)
+            new_slopes[place] = slope_by_cases(s, new_knots, new_values, place)
     return "ok", [new_knots, new_values, new_slopes]
 
 
@@ -853,19 +984,19 @@ def any_change(dice):
 def change_fault():
     """A sentence on the first change that is wrong, or None."""
     for built, change, answer, lists in CHANGED_FIGURES:
-        workbench = workbench_with(*built)
-        if (workbench.change(*change), workbench.table()) != (answer, lists):
+        workbench = workbench_with(S, *built)
+        if (workbench.change(*change), workbench.table()) != (answer, [S, *lists]):
             return f"the change {change} of {built} does not give {answer} and {lists}"
     dice, answers = Dice(42), set()
     for _ in range(6000):
-        *lists, point, knot, value = any_change(dice)
-        workbench = workbench_with(*lists)
-        answer, lists_after = change_by_cases(*lists, point, knot, value)
-        if (workbench.change(point, knot, value), workbench.table()) != (answer, lists_after):
-            return f"the change {point, knot, value} of {lists} does not give {answer} and {lists_after}"
+        s, (*lists, point, knot, value) = dice.pick(*ALL, *ALL, S, S, 9, dice.between(9, 2**32 - 1)), any_change(dice)
+        workbench = workbench_with(s, *lists)
+        answer, lists_after = change_by_cases(s, *lists, point, knot, value)
+        if (workbench.change(point, knot, value), workbench.table()) != (answer, [s, *lists_after]):
+            return f"the change {point, knot, value} of {lists} does not give {answer} and {lists_after}, with s {s}"
         answers.add(answer)
-    # Done, the three causes that are always at 0, and two that are at each of six pieces.
-    return None if len(answers) == 16 else f"{len(answers)} answers to changes were tried, and it must be 16"
+    # Done, the four causes that are always at 0, and two that are at each of six pieces.
+    return None if len(answers) == 17 else f"{len(answers)} answers to changes were tried, and it must be 17"
 
 
 def renewed_fault():
@@ -877,10 +1008,10 @@ def renewed_fault():
             for _ in range(60):
                 knots, values = in_steps(dice, count, range(3, 9)), in_steps(dice, count, range(-9, 10))
                 change = point, knots[point] + dice.between(-2, 2), values[point] + dice.between(-9, 9)
-                *points, slopes = changed_table(knots, values, [I32_MIN] * count, *change)  # no build gives such a slope
+                *points, slopes = changed_table(S, knots, values, [I32_MIN] * count, *change)  # no build gives such a slope
                 if [place for place, slope in enumerate(slopes) if slope != I32_MIN] != expected:
                     return f"the change {change} of knots {knots} and values {values} does not renew the slopes {expected} alone"
-                before, after = built_slopes(knots, values), built_slopes(*points)
+                before, after = built_slopes(S, knots, values), built_slopes(S, *points)
                 altered |= {place for place in range(count) if before[place] != after[place]}
             if sorted(altered) != expected:
                 return f"changes of point {point} of {count} alter the slopes {sorted(altered)}, and it must be {expected}"
@@ -890,19 +1021,19 @@ def renewed_fault():
 def chain_fault():
     """A sentence on the first change in a chain that does not leave what a build gives, or None."""
     dice, done = Dice(43), 0
-    for count in (*range(2, 8), 30) * 20:
+    for count, s in zip((*range(2, 8), 30) * 20, cycle(ALL)):
         points = in_steps(dice, count, range(3, 9)), in_steps(dice, count, range(-9, 30))
-        workbench = workbench_with(*points, built_slopes(*points))
+        workbench = workbench_with(s, *points, built_slopes(s, *points))
         for _ in range(12):
-            before, point = [list(numbers) for numbers in workbench.table()], dice.between(0, count - 1)
+            before, point = [list(numbers) for numbers in workbench.table()[1:]], dice.between(0, count - 1)
             knot, value, _ = (numbers[point] for numbers in before)
             change = point, knot + dice.between(-4, 4), value + dice.between(-20, 20)
             done += workbench.change(*change) == "ok"
-            knots, values, slopes = workbench.table()
-            if slopes != built_slopes(knots, values):
-                return f"the change {change} of {before} leaves slopes {slopes}, and a build gives others"
+            _, knots, values, slopes = workbench.table()
+            if slopes != built_slopes(s, knots, values):
+                return f"the change {change} of {before}, with s {s}, leaves slopes {slopes}, and a build gives others"
             workbench.change(point, knot, value)
-            if workbench.table() != before:
+            if workbench.table() != [s, *before]:
                 return f"the change {change} of {before}, undone, leaves {workbench.table()}"
             workbench.change(*change)
     return None if done >= 1000 else f"only {done} changes in chains were not refused"
@@ -910,7 +1041,7 @@ def chain_fault():
 
 def line_fault():
     """A sentence on the first line that the reference answers wrongly, or None."""
-    after_table = [(SET_TABLE + data, b"ok 3\n" * 3 + expected) for data, expected in TABLE_LINES]
+    after_table = [(SET_TABLE + data, b"ok 3\n" * 3 + expected) for data, expected in (*TABLE_LINES, *UNIT_LINES)]
     for data, expected in (*LINES, *after_table, *COUNT_LINES):
         if answers_to(data) != expected:
             return f"{data[:120]!r} must give {expected[:120]!r}, and the reference gives {answers_to(data)[:120]!r}"

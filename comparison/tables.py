@@ -6,7 +6,7 @@ from itertools import accumulate, combinations, cycle, islice, product
 from math import gcd
 
 from dice import Dice, I32_MAX, I32_MIN
-from reference import LARGEST_RISE, UNIT, WIDEST
+from reference import FIRST_S, LARGEST_RISE, WIDEST, unit
 
 NAMES = (b"knots", b"values", b"slopes")
 SHOW_ALL = tuple(b"show " + name for name in NAMES)
@@ -128,13 +128,17 @@ def far_faults():
     yield from values(wave(1024))
 
 
-def large_by_chance():
-    """1024 points, with runs of rises and of falls."""
-    dice = Dice(11)
+def by_chance_of_many(dice):
+    """Knots and values of 1024 points, with runs of rises and of falls."""
     widths = [dice.up_to_any_size(WIDEST) for _ in range(1023)]
     rises = [(-1) ** (place // 7) * dice.up_to_any_size(LARGEST_RISE) for place in range(1023)]
-    yield from knots(sums(widths))
-    yield from values(sums(rises))
+    return sums(widths), sums(rises)
+
+
+def large_by_chance():
+    knot_row, value_row = by_chance_of_many(Dice(11))
+    yield from knots(knot_row)
+    yield from values(value_row)
 
 
 def too_many_points():
@@ -275,13 +279,17 @@ def table_of(pieces):
     return points(sums(widths), sums(rises))
 
 
+# Pieces of which every two are set side by side, in one table with so many inner points, as each of these depends on its two pieces alone.
+AT_THE_LIMITS = every_two(list(product((1, 2, WIDEST), (0, 1, -1, LARGEST_RISE, -LARGEST_RISE))))
+SOME_OTHERS = every_two(list(product((3, 1023), (2, 5, 999, 1048575, -3, -100, -65537))))
+
+
 def neighbours_at_the_limits():
-    """One table with so many inner points, as each of these depends on its two pieces alone."""
-    yield from table_of(every_two(list(product((1, 2, WIDEST), (0, 1, -1, LARGEST_RISE, -LARGEST_RISE)))))
+    yield from table_of(AT_THE_LIMITS)
 
 
 def neighbours():
-    yield from table_of(every_two(list(product((3, 1023), (2, 5, 999, 1048575, -3, -100, -65537)))))
+    yield from table_of(SOME_OTHERS)
 
 
 def greatest_slopes():
@@ -299,25 +307,30 @@ def rounded(over, under):
     return whole, "whole" if rest == 0 else {0: "above", 999: "below"}.get(1000 * rest // under)
 
 
-def inner_quotient(h1, z1, h2, z2):
+def inner_quotient(s, h1, z1, h2, z2):
     """Document 01's quotient at an inner point, as its two sides."""
-    return 3 * UNIT * (h1 + h2) * z1 * z2, h1 * z2 * (h1 + 2 * h2) + h2 * z1 * (2 * h1 + h2)
+    return 3 * unit(s) * (h1 + h2) * z1 * z2, h1 * z2 * (h1 + 2 * h2) + h2 * z1 * (2 * h1 + h2)
 
 
-def inner_rounding():
-    """Inner points whose quotient is whole, or just above a whole number, or just below, rising and falling."""
-    dice = Dice(7)
-    wanted = {"whole": 12, "above": 12, "below": 12}
+def inner_pieces_to_round(s, dice, of_each):
+    """Two pieces each, as h1, z1, h2, z2, whose quotient is whole, or just above a whole number, or just below: so many of each kind."""
+    wanted = {"whole": of_each, "above": of_each, "below": of_each}
     while any(wanted.values()):
         h1, h2 = dice.up_to_any_size(WIDEST), dice.up_to_any_size(WIDEST)
         z1, z2 = dice.up_to_any_size(LARGEST_RISE), dice.up_to_any_size(LARGEST_RISE)
-        whole, where = rounded(*inner_quotient(h1, z1, h2, z2))
+        whole, where = rounded(*inner_quotient(s, h1, z1, h2, z2))
         if h1 == h2 or z1 * h2 == z2 * h1 or whole == 0:
             continue  # whole for too plain a reason, or nothing to round
         if wanted.get(where):
             wanted[where] -= 1
-            yield from points((0, h1, h1 + h2), (0, z1, z1 + z2))
-            yield from values((0, -z1, -z1 - z2))
+            yield h1, z1, h2, z2
+
+
+def inner_rounding():
+    """Inner points at such pieces, rising and falling."""
+    for h1, z1, h2, z2 in inner_pieces_to_round(FIRST_S, Dice(7), 12):
+        yield from points((0, h1, h1 + h2), (0, z1, z1 + z2))
+        yield from values((0, -z1, -z1 - z2))
 
 
 # Two pieces each, as h1, z1, h2, z2, whose quotient is so near below a whole number that 64-bit floats round it up.
@@ -418,26 +431,32 @@ def bounded_ends():
         yield from at_both_ends(width, 1, [(rise, -LARGEST_RISE)])
 
 
-def end_quotient(h1, z1, h2, z2):
+def end_quotient(s, h1, z1, h2, z2):
     """Request 2's quotient at an end, in units of a slope, as its two sides."""
-    return UNIT * ((2 * h1 + h2) * h2 * z1 - h1 * h1 * z2), h1 * h2 * (h1 + h2)
+    return unit(s) * ((2 * h1 + h2) * h2 * z1 - h1 * h1 * z2), h1 * h2 * (h1 + h2)
 
 
-def end_rounding():
-    """Ends whose quotient is whole, or just above a whole number, or just below, rising and falling, on the left or on the right."""
-    dice = Dice(47)
-    wanted = {"whole": 5, "above": 5, "below": 5}
+def end_pieces_to_round(s, dice, of_each):
+    """The same at an end, of its piece and the neighbour, where the quotient is taken."""
+    wanted = {"whole": of_each, "above": of_each, "below": of_each}
     while any(wanted.values()):
         h1, h2 = dice.up_to_any_size(WIDEST), dice.up_to_any_size(WIDEST)
         z1, z2 = dice.up_to_any_size(LARGEST_RISE), dice.pick(1, -1) * dice.up_to_any_size(LARGEST_RISE)
-        whole, where = rounded(*end_quotient(h1, z1, h2, z2))
-        if h1 == h2 or z1 * h2 == z2 * h1 or not 0 < whole * h1 < 3 * UNIT * z1:
+        whole, where = rounded(*end_quotient(s, h1, z1, h2, z2))
+        if h1 == h2 or z1 * h2 == z2 * h1 or not 0 < whole * h1 < 3 * unit(s) * z1:
             continue  # whole for too plain a reason, or not taken
         if wanted.get(where):
             wanted[where] -= 1
-            order = dice.pick(1, -1)
-            yield from points(sums((h1, h2)[::order]), sums((z1, z2)[::order]))
-            yield from values(sums((-z1, -z2)[::order]))
+            yield h1, z1, h2, z2
+
+
+def end_rounding():
+    """Ends of such pieces, rising and falling, on the left or on the right."""
+    dice = Dice(47)
+    for h1, z1, h2, z2 in end_pieces_to_round(FIRST_S, dice, 5):
+        order = dice.pick(1, -1)
+        yield from points(sums((h1, h2)[::order]), sums((z1, z2)[::order]))
+        yield from values(sums((-z1, -z2)[::order]))
 
 
 def ends_past_floats():
@@ -526,16 +545,21 @@ def any_rise(dice):
     return sign * (dice.between(0, 4) if kind < 22 else dice.up_to_any_size(LARGEST_RISE))
 
 
+def any_points(dice):
+    """Lines that set a small table by chance, and build."""
+    count = dice.between(1, 7)
+    widths, rises = [any_width(dice) for _ in range(count)], [any_rise(dice) for _ in range(count)]
+    if dice.between(0, 1):
+        rises = [abs(rise) for rise in rises]  # no change of sign, so that inner slopes are not 0
+    if dice.between(0, 1):
+        rises = [-rise for rise in rises]
+    return points(sums(widths), sums(rises))
+
+
 def small_by_chance():
     dice = Dice(9)
     for _ in range(200):
-        count = dice.between(1, 7)
-        widths, rises = [any_width(dice) for _ in range(count)], [any_rise(dice) for _ in range(count)]
-        if dice.between(0, 1):
-            rises = [abs(rise) for rise in rises]  # no change of sign, so that inner slopes are not 0
-        if dice.between(0, 1):
-            rises = [-rise for rise in rises]
-        yield from points(sums(widths), sums(rises))
+        yield from any_points(dice)
 
 
 def small_anywhere():

@@ -3,7 +3,7 @@
 The kit's `rt try` runs a program on its interpreter and compiled in three ways. The interpreter gives up
 on as many cases as are stored, and compiling takes longest. So a few cases are tried on the interpreter
 alone, which tell most of the changed programs; `rt try` runs the workbench with the others on all the
-cases, and with what is left the program that calls the libraries as the workbench does not.
+cases, in parts, and with what is left the program that calls the libraries as the workbench does not.
 """
 import os
 import re
@@ -16,7 +16,8 @@ from pathlib import Path
 
 import reference
 from few import few_cases
-from stored import ANSWERS, CALLS_ANSWERS, CASES, ROOT, read
+from groups import grouped
+from stored import ANSWERS, CALLS_ANSWERS, CASES, EXAMPLE, ROOT, read
 
 NOT_A_PROGRAM, TOLD, SURVIVES = "not a program", "told", "survives"
 NOT_LOWERED = "rattle-cases: the program is not lowered"
@@ -24,6 +25,7 @@ GAVE_UP = "the run did not finish within"
 TOO_SLOW = "the program did not end within the time limit"
 EMULATED = os.uname().machine != "x86_64"
 PATIENCE = 60  # seconds, more than ten times what the right program takes
+MOST_WRITTEN = 2**20  # bytes that `rt try` lets a program write
 
 
 def the_kit():
@@ -47,6 +49,21 @@ def kit_without_compiler(folder):
     (folder / clang).write_text(f"#!/bin/sh\nexec /bin/cp {empty} module.o\n")
     (folder / clang).chmod(0o755)
     return folder
+
+
+def parts_of_cases():
+    """The stored cases in parts that are answered in so many bytes, each of them some groups and for a workbench of its own."""
+    by_group, part, written = {}, [], 0
+    for (title, _), with_ending in zip(grouped(read(CASES), read(EXAMPLE)), re.findall(rb"[^\n]*\n|[^\n]+", read(CASES))):
+        by_group.setdefault(title, []).append(with_ending)
+    for group in map(b"".join, by_group.values()):
+        size = len(reference.answers_to(group))
+        if part and written + size > MOST_WRITTEN * 9 // 10:  # what the lists hold before a group alters an answer or two
+            yield b"".join(part)
+            part, written = [], 0
+        part.append(group)
+        written += size
+    yield b"".join(part)
 
 
 class Room:
@@ -131,17 +148,22 @@ def was_well_until(reason, verdict):
     return reason in verdict and 'found ""' in verdict
 
 
+def with_answers(cases):
+    """Cases for the workbench, and what the reference answers."""
+    return {CASES: cases, ANSWERS: reference.answers_to(cases)}
+
+
 class Rooms:
-    """Rooms for as many trials at a time as are wanted: each has one for the few cases, one for all, and one for the calls."""
+    """Rooms for as many trials at a time as are wanted: each has one for the few cases, one for each part of all, and one for the calls."""
 
     def __init__(self, jobs):
         self.keeper = tempfile.TemporaryDirectory(prefix="mutation-")
-        folder, few = Path(self.keeper.name), few_cases()
-        kit, answers = kit_without_compiler(folder / "kit"), reference.answers_to(few)
+        folder = Path(self.keeper.name)
+        kit, few, parts = kit_without_compiler(folder / "kit"), with_answers(few_cases()), [*map(with_answers, parts_of_cases())]
         self.free = [
             (
-                Room(folder / f"few-{job}", "negwafir", {CASES: few, ANSWERS: answers}, kit, by_the_interpreter),
-                Room(folder / f"all-{job}", "negwafir", {name: read(name) for name in (CASES, ANSWERS)}, the_kit(), by_all),
+                Room(folder / f"few-{job}", "negwafir", few, kit, by_the_interpreter),
+                *(Room(folder / f"part-{at}-{job}", "negwafir", part, the_kit(), by_all) for at, part in enumerate(parts)),
                 Room(folder / f"calls-{job}", "calls", {CALLS_ANSWERS: read(CALLS_ANSWERS)}, the_kit(), by_all),
             )
             for job in range(jobs)

@@ -11,7 +11,7 @@ use position::Place;
 use rules::Refusal;
 use words::Word;
 
-// Slopes are in 1/2^8 of a value per count.
+// A table with slopes in 1/2^8 of a value per count.
 const S: u32 = 8;
 
 const KNOTS: [i32; 3] = [0, 2, 5];
@@ -26,11 +26,23 @@ const POSITIONS: [i32; 5] = [0, 2, 5, 6, -1];
 // Values with which the first piece bends.
 const BEND: [i32; 3] = [9, 7, 7];
 
+// A table that is accepted where a slope is a whole value, and in every finer unit too, and has other values there.
+const UNLIKE_KNOTS: [i32; 3] = [0, 3, 5];
+
+const UNLIKE_VALUES: [i32; 3] = [7, 17, 17];
+
+const UNLIKE_SLOPES: [i32; 3] = [10, 0, 0];
+
+// Fewer slopes than points.
+const FEWER: [i32; 2] = [10, 0];
+
 fn main() {
     quotients();
     nearests();
     texts(b"abc", b"ab c");
-    tables(&KNOTS, &VALUES, &SLOPES, &BEND);
+    asked(S, &KNOTS, &VALUES, &SLOPES);
+    at(S, &KNOTS, &BEND, &SLOPES, 3);
+    units(&UNLIKE_KNOTS, &UNLIKE_VALUES, &UNLIKE_SLOPES, &FEWER);
     pieces();
 }
 
@@ -191,36 +203,57 @@ fn appended(held: usize, more: &[u8]) {
     with_text(b"append '$' # #\n", &four, held, n, 0);
 }
 
-// ---- a table that is accepted, at positions in it and outside, and with values that it is refused for
+// ---- tables, each line with the slope unit's number first, at positions in them and outside
 
-fn tables(knots: &[i32], values: &[i32], slopes: &[i32], bend: &[i32]) {
-    given(b"points # # \n", table::points(S, knots, values, slopes));
-    given(b"check # # \n", table::check(S, knots, values, slopes));
-    at_each(knots, values, slopes, &POSITIONS);
-    at(knots, bend, slopes, 3);
+// In two units that are good and in two that are refused, which is asked before the lengths.
+fn units(knots: &[i32], values: &[i32], slopes: &[i32], fewer: &[i32]) {
+    in_unit(0, knots, values, slopes, fewer);
+    in_unit(4, knots, values, slopes, fewer);
+    in_unit(9, knots, values, slopes, fewer);
+    in_unit(4294967295, knots, values, slopes, fewer);
 }
 
-fn given(template: &[u8], refusal: Refusal) {
-    naturals(template, refusal.number as usize, refusal.place, 0);
+fn in_unit(s: u32, knots: &[i32], values: &[i32], slopes: &[i32], fewer: &[i32]) {
+    asked(s, knots, values, slopes);
+    asked(s, knots, values, fewer);
+}
+
+fn asked(s: u32, knots: &[i32], values: &[i32], slopes: &[i32]) {
+    given(
+        b"points # # #\n",
+        s,
+        table::points(s, knots, values, slopes),
+    );
+    given(b"check # # #\n", s, table::check(s, knots, values, slopes));
+    at_each(s, knots, values, slopes, &POSITIONS);
+}
+
+fn given(template: &[u8], s: u32, refusal: Refusal) {
+    naturals(template, s as usize, refusal.number as usize, refusal.place);
 }
 
 // What is answered at each of these positions.
-fn at_each(knots: &[i32], values: &[i32], slopes: &[i32], positions: &[i32]) {
+fn at_each(s: u32, knots: &[i32], values: &[i32], slopes: &[i32], positions: &[i32]) {
     let mut i = 0;
     while i < positions.len() {
-        at(knots, values, slopes, positions[i]);
+        at(s, knots, values, slopes, positions[i]);
         i += 1;
     }
 }
 
 // The refusal's number and place stand behind the position, and then what is answered.
-fn at(knots: &[i32], values: &[i32], slopes: &[i32], position: i32) {
-    whole32(b"locate # ", position);
-    located(position::locate(S, knots, values, slopes, position));
-    whole32(b"evaluate # ", position);
-    valued(curve::evaluate(S, knots, values, slopes, position));
-    whole32(b"float_answer # ", position);
-    driven(drive::float_answer(S, knots, values, slopes, position));
+fn at(s: u32, knots: &[i32], values: &[i32], slopes: &[i32], position: i32) {
+    placed(b"locate # ", s, position);
+    located(position::locate(s, knots, values, slopes, position));
+    placed(b"evaluate # ", s, position);
+    valued(curve::evaluate(s, knots, values, slopes, position));
+    placed(b"float_answer # ", s, position);
+    driven(drive::float_answer(s, knots, values, slopes, position));
+}
+
+fn placed(template: &[u8], s: u32, position: i32) {
+    naturals(template, s as usize, 0, 0);
+    whole32(b"# ", position);
 }
 
 fn located(place: Place) {
@@ -239,7 +272,7 @@ fn valued(value: Value) {
         value.refusal.place,
         0,
     );
-    whole32(b"# \n", value.value);
+    whole32(b"#\n", value.value);
 }
 
 fn driven(driven: Driven) {
