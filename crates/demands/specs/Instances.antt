@@ -24,7 +24,7 @@ use Rattle.exports.specs.Cases.{judged, moves}
 use Rattle.demands.specs.Demands.{judge, points, build, check, locate, evaluate, float-answer, changed-points, point, Implementation}
 use Rattle.demands.specs.Ours.{ours, ours-in-C, a-move}
 use Rattle.demands.specs.Refuting.{within}
-use Rattle.demands.specs.SixteenGiven.{has-value}
+use Rattle.demands.specs.SixteenGiven.{eighth, has-value}
 use Rattle.demands.specs.Programs.{outcome, two, two-within, two-built, two-passes, four, lowering, lowered, is-lowered}
 
 -- 23038 and 6912 are 11519·2 and 27·2^8
@@ -33,7 +33,7 @@ numerator = move (fin false 0 (pos 0)) (fin true 11519 (pos 1)) (fin false 27 (p
 
 -- (0,0), (3,−10) at position 1, and (0,0), (1,1), (2,4), (3,7) with point 0 changed to (0,−2)
 pub record Worked (I : Implementation) : Type 0 where
-  pub a-verdict : I .May (judge (pos 1) (pos 1) (pos 256) (pos 256)) (outcome 0 0 rising tt)
+  pub a-verdict : I .May (judge 8 (pos 1) (pos 1) (pos 256) (pos 256)) (outcome 0 0 rising tt)
   pub its-points : I .May (points two) (outcome 0 0 tt tt)
   pub a-build : I .May (build two) (outcome 0 0 tt (negsuc 852 ∷ negsuc 852 ∷ []))
   pub a-check : I .May (check two) (outcome 0 0 tt tt)
@@ -43,8 +43,8 @@ pub record Worked (I : Implementation) : Type 0 where
   pub changed-points-are : I .May (changed-points lowering four) (outcome 0 0 tt tt)
   pub a-change : I .May (point [] lowering four) (outcome 0 0 tt lowered)
 
-straight : Judged (pos 1) (pos 1) (pos 256) (pos 256) (ruling 0 0 rising)
-straight = monotone (within tt tt) (within tt tt) (monotone-rising (ltZ-yes tt) (short-accepts (line (leZ-yes tt) (leZ-yes tt) (leZ-yes tt))))
+straight : Judged 8 (pos 1) (pos 1) (pos 256) (pos 256) (ruling 0 0 rising)
+straight = monotone eighth (within tt tt) (within tt tt) (monotone-rising (ltZ-yes tt) (short-accepts (line (leZ-yes tt) (leZ-yes tt) (leZ-yes tt))))
 
 in-piece-0 : Belongs (two .knots) (pos 1) 0
 in-piece-0 = inside {i = 0} (lit< tt) (leZ-yes tt) (ltZ-yes tt)
@@ -59,14 +59,14 @@ pub worked : Worked ours
 worked =
     record {
       a-verdict = record { verdict = Rising; says = refl; promised = straight };
-      its-points = points-accepted two-within refl;
+      its-points = points-accepted eighth two-within refl;
       a-build = two-built (two .slopes) refl;
       a-check = two-passes;
       a-piece = record { refusal = at-1; piece = answered in-piece-0 };
       a-value = has-value {before = two .slopes} (within tt tt) in-piece-0 refl (two-built (two .slopes) refl);
       a-float-answer = record { told = Move (record { left = fin false 0 (pos 0); numerator = fin true 11519 (pos 1); denominator = fin false 27 (pos 8) }); says = refl; promised = driven };
       changed-points-are = is-lowered .refusal;
-      a-change = is-lowered;
+      a-change = record { promised = is-lowered; the-unit = refl };
     }
 
 pub worked-in-C : Worked ours-in-C
@@ -86,5 +86,5 @@ worked-in-C =
             promised = moves driven;
           };
       changed-points-are = worked .changed-points-are;
-      a-change = worked .a-change;
+      a-change = record { promised = is-lowered; the-unit = refl };
     }

@@ -30,11 +30,13 @@ use Rattle.position.specs.Spot.{on}
 use Rattle.demands.specs.Contracts.{list, SaysMonotone, HasCoefficients, Steps, RenewsTo, Seeks}
 use Rattle.demands.specs.Programs.{two, four}
 use Rattle.demands.specs.Refuting.{within, in-piece}
-use Rattle.demands.specs.SixteenGiven.{count}
+use Rattle.demands.specs.SixteenGiven.{eighth, count}
 use Rattle.integers.proofs.difference.Reads as integers·difference
 use Rattle.integers.proofs.between.Reads as integers·between
 use Rattle.integers.proofs.floor_div.Reads as integers·floor_div
 use Rattle.integers.proofs.nearest_div.Reads as integers·nearest_div
+use Rattle.rules.proofs.unit_within.Reads as rules·unit_within
+use Rattle.rules.proofs.unit.Reads as rules·unit
 use Rattle.rules.proofs.count_within.Reads as rules·count_within
 use Rattle.rules.proofs.width_within.Reads as rules·width_within
 use Rattle.rules.proofs.rise_within.Reads as rules·rise_within
@@ -95,7 +97,9 @@ pub record WorkedBelow : Type 0 where
   pub between : integers·between.Post tt (pos 1, (pos 1, (pos 1024, tt))) true (pos 1, (pos 1, (pos 1024, tt)))
   pub floor-div : integers·floor_div.Post tt (negsuc 9, (pos 3, tt)) (negsuc 3) (negsuc 9, (pos 3, tt))
   pub nearest-div : integers·nearest_div.Post tt (negsuc 9, (pos 4, tt)) (negsuc 1) (negsuc 9, (pos 4, tt))
-  -- the largest of each
+  -- the largest of each, and the unit of that
+  pub unit-within : rules·unit_within.Post tt (8, tt) true (8, tt)
+  pub unit : rules·unit.Post tt (8, tt) (pos 256) (8, tt)
   pub count-within : rules·count_within.Post tt (1024, tt) true (1024, tt)
   pub width-within : rules·width_within.Post tt (pos 1024, tt) true (pos 1024, tt)
   pub rise-within : rules·rise_within.Post tt (pos 1048576, tt) true (pos 1048576, tt)
@@ -128,10 +132,10 @@ pub record WorkedBelow : Type 0 where
   -- `ok`, LF put behind `=`
   pub append-reply : replies·append_reply.Post ([], tt) (bytes buffer, (1, (Done (record { number = 0; place = 0 }), tt))) 4 (bytes (61 ∷ 111 ∷ 107 ∷ 10 ∷ []), (1, (Done (record { number = 0; place = 0 }), tt)))
   -- 1, 1, 256, 256 is monotone and a line; the steps, renewed slopes and a position of (0,0), (1,1), (2,4), (3,7) and of (0,0), (3,−10)
-  pub is-monotone : SaysMonotone (pos 1) (pos 1) (pos 256) (pos 256) true
-  pub coefficients : HasCoefficients (pos 1) (pos 1) (pos 256) (pos 256) (pos 256) (pos 0) (pos 0)
+  pub is-monotone : SaysMonotone (pos 256) (pos 1) (pos 1) (pos 256) (pos 256) true
+  pub coefficients : HasCoefficients (pos 256) (pos 1) (pos 1) (pos 256) (pos 256) (pos 256) (pos 0) (pos 0)
   pub step : Steps (four .values) 1 (pos 3)
-  pub renew : RenewsTo four 0 2 (four .slopes)
+  pub renew : RenewsTo four (pos 256) 0 2 (four .slopes)
   pub seek : Seeks two (pos 1) (On (record { piece = 0; left = pos 0; h = pos 3; z = negsuc 9; m = negsuc 852; n = negsuc 852; t = pos 1 }))
 
 pub worked-below : WorkedBelow
@@ -142,6 +146,8 @@ worked-below =
       between = holds (within tt tt);
       floor-div = record { is = refl };
       nearest-div = record { nearest = λ _. record { above = leZ-yes tt; below = ltZ-yes tt }; otherwise = λ l. absurd (l .le) };
+      unit-within = holds eighth;
+      unit = (refl, within tt tt);
       count-within = holds (count tt tt);
       width-within = holds (within tt tt);
       rise-within = holds (within tt tt);

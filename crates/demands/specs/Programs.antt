@@ -7,7 +7,7 @@ use lib.Dec.{lit<}
 use lib.IntN.{ℤ, pos, negsuc, _+ℤ_, _-ℤ_, _*ℤ_}
 use lib.Signed.{_≤ℤ_, _<ℤ_, leZ-yes, ltZ-yes}
 use lib.ListN.{length}
-use Rattle.cubic.specs.Piece.{unit}
+use Rattle.rules.specs.Limits.{unit}
 use Rattle.rules.specs.Refusals.{Given}
 use Rattle.table.specs.declared.changed.Change.{Change}
 use Rattle.table.specs.Table.{Table, table, Holds, checkOrder}
@@ -24,7 +24,7 @@ use Rattle.demands.specs.Demands.{Call, judge, points, build, check, loc
 use Rattle.demands.specs.Ours.{Asks, May}
 use Rattle.demands.specs.ByOrder.{refused-exactly}
 use Rattle.demands.specs.Refuting.{within}
-use Rattle.demands.specs.SixteenGiven.{count, has-slopes, has-value}
+use Rattle.demands.specs.SixteenGiven.{eighth, count, has-slopes, has-value}
 
 -- what comes out of a call
 abbrev pub outcome : {call : Call} → ℕ → ℕ → Reply call → Lists call → Outcome call
@@ -36,7 +36,7 @@ answering may = record { Asks = Asks; May = may }
 
 -- ---- what may come out, call by call
 
-abbrev by-call : ((h z m n : ℤ) → Outcome (judge h z m n) → Type 0)
+abbrev by-call : ((s : ℕ) (h z m n : ℤ) → Outcome (judge s h z m n) → Type 0)
     → ((t : Table) → Outcome (points t) → Type 0)
     → ((t : Table) → Outcome (build t) → Type 0)
     → ((t : Table) → Outcome (check t) → Type 0)
@@ -46,7 +46,7 @@ abbrev by-call : ((h z m n : ℤ) → Outcome (judge h z m n) → Type 0)
     → ((c : Change) (t : Table) → Outcome (changed-points c t) → Type 0)
     → ((made : List Change) (c : Change) (t : Table) → Outcome (point made c t) → Type 0)
     → (call : Call) → Outcome call → Type 0
-by-call J P B C L E F D Q (judge h z m n) = J h z m n
+by-call J P B C L E F D Q (judge s h z m n) = J s h z m n
 by-call J P B C L E F D Q (points t) = P t
 by-call J P B C L E F D Q (build t) = B t
 by-call J P B C L E F D Q (check t) = C t
@@ -58,32 +58,32 @@ by-call J P B C L E F D Q (point made c t) = Q made c t
 
 -- ours, but for one call, of which `Wrong` says what may come out
 
-abbrev pub another-judge : ((h z m n : ℤ) → Outcome (judge h z m n) → Type 0) → (call : Call) → Outcome call → Type 0
+abbrev pub another-judge : ((s : ℕ) (h z m n : ℤ) → Outcome (judge s h z m n) → Type 0) → (call : Call) → Outcome call → Type 0
 another-judge Wrong = by-call Wrong (λ t. May (points t)) (λ t. May (build t)) (λ t. May (check t)) (λ t x. May (locate t x)) (λ t x. May (evaluate t x)) (λ t x. May (float-answer t x)) (λ c t. May (changed-points c t)) (λ made c t. May (point made c t))
 
 abbrev pub another-points : ((t : Table) → Outcome (points t) → Type 0) → (call : Call) → Outcome call → Type 0
-another-points Wrong = by-call (λ h z m n. May (judge h z m n)) Wrong (λ t. May (build t)) (λ t. May (check t)) (λ t x. May (locate t x)) (λ t x. May (evaluate t x)) (λ t x. May (float-answer t x)) (λ c t. May (changed-points c t)) (λ made c t. May (point made c t))
+another-points Wrong = by-call (λ s h z m n. May (judge s h z m n)) Wrong (λ t. May (build t)) (λ t. May (check t)) (λ t x. May (locate t x)) (λ t x. May (evaluate t x)) (λ t x. May (float-answer t x)) (λ c t. May (changed-points c t)) (λ made c t. May (point made c t))
 
 abbrev pub another-build : ((t : Table) → Outcome (build t) → Type 0) → (call : Call) → Outcome call → Type 0
-another-build Wrong = by-call (λ h z m n. May (judge h z m n)) (λ t. May (points t)) Wrong (λ t. May (check t)) (λ t x. May (locate t x)) (λ t x. May (evaluate t x)) (λ t x. May (float-answer t x)) (λ c t. May (changed-points c t)) (λ made c t. May (point made c t))
+another-build Wrong = by-call (λ s h z m n. May (judge s h z m n)) (λ t. May (points t)) Wrong (λ t. May (check t)) (λ t x. May (locate t x)) (λ t x. May (evaluate t x)) (λ t x. May (float-answer t x)) (λ c t. May (changed-points c t)) (λ made c t. May (point made c t))
 
 abbrev pub another-check : ((t : Table) → Outcome (check t) → Type 0) → (call : Call) → Outcome call → Type 0
-another-check Wrong = by-call (λ h z m n. May (judge h z m n)) (λ t. May (points t)) (λ t. May (build t)) Wrong (λ t x. May (locate t x)) (λ t x. May (evaluate t x)) (λ t x. May (float-answer t x)) (λ c t. May (changed-points c t)) (λ made c t. May (point made c t))
+another-check Wrong = by-call (λ s h z m n. May (judge s h z m n)) (λ t. May (points t)) (λ t. May (build t)) Wrong (λ t x. May (locate t x)) (λ t x. May (evaluate t x)) (λ t x. May (float-answer t x)) (λ c t. May (changed-points c t)) (λ made c t. May (point made c t))
 
 abbrev pub another-locate : ((t : Table) (x : ℤ) → Outcome (locate t x) → Type 0) → (call : Call) → Outcome call → Type 0
-another-locate Wrong = by-call (λ h z m n. May (judge h z m n)) (λ t. May (points t)) (λ t. May (build t)) (λ t. May (check t)) Wrong (λ t x. May (evaluate t x)) (λ t x. May (float-answer t x)) (λ c t. May (changed-points c t)) (λ made c t. May (point made c t))
+another-locate Wrong = by-call (λ s h z m n. May (judge s h z m n)) (λ t. May (points t)) (λ t. May (build t)) (λ t. May (check t)) Wrong (λ t x. May (evaluate t x)) (λ t x. May (float-answer t x)) (λ c t. May (changed-points c t)) (λ made c t. May (point made c t))
 
 abbrev pub another-evaluate : ((t : Table) (x : ℤ) → Outcome (evaluate t x) → Type 0) → (call : Call) → Outcome call → Type 0
-another-evaluate Wrong = by-call (λ h z m n. May (judge h z m n)) (λ t. May (points t)) (λ t. May (build t)) (λ t. May (check t)) (λ t x. May (locate t x)) Wrong (λ t x. May (float-answer t x)) (λ c t. May (changed-points c t)) (λ made c t. May (point made c t))
+another-evaluate Wrong = by-call (λ s h z m n. May (judge s h z m n)) (λ t. May (points t)) (λ t. May (build t)) (λ t. May (check t)) (λ t x. May (locate t x)) Wrong (λ t x. May (float-answer t x)) (λ c t. May (changed-points c t)) (λ made c t. May (point made c t))
 
 abbrev pub another-float-answer : ((t : Table) (x : ℤ) → Outcome (float-answer t x) → Type 0) → (call : Call) → Outcome call → Type 0
-another-float-answer Wrong = by-call (λ h z m n. May (judge h z m n)) (λ t. May (points t)) (λ t. May (build t)) (λ t. May (check t)) (λ t x. May (locate t x)) (λ t x. May (evaluate t x)) Wrong (λ c t. May (changed-points c t)) (λ made c t. May (point made c t))
+another-float-answer Wrong = by-call (λ s h z m n. May (judge s h z m n)) (λ t. May (points t)) (λ t. May (build t)) (λ t. May (check t)) (λ t x. May (locate t x)) (λ t x. May (evaluate t x)) Wrong (λ c t. May (changed-points c t)) (λ made c t. May (point made c t))
 
 abbrev pub another-changed-points : ((c : Change) (t : Table) → Outcome (changed-points c t) → Type 0) → (call : Call) → Outcome call → Type 0
-another-changed-points Wrong = by-call (λ h z m n. May (judge h z m n)) (λ t. May (points t)) (λ t. May (build t)) (λ t. May (check t)) (λ t x. May (locate t x)) (λ t x. May (evaluate t x)) (λ t x. May (float-answer t x)) Wrong (λ made c t. May (point made c t))
+another-changed-points Wrong = by-call (λ s h z m n. May (judge s h z m n)) (λ t. May (points t)) (λ t. May (build t)) (λ t. May (check t)) (λ t x. May (locate t x)) (λ t x. May (evaluate t x)) (λ t x. May (float-answer t x)) Wrong (λ made c t. May (point made c t))
 
 abbrev pub another-point : ((made : List Change) (c : Change) (t : Table) → Outcome (point made c t) → Type 0) → (call : Call) → Outcome call → Type 0
-another-point Wrong = by-call (λ h z m n. May (judge h z m n)) (λ t. May (points t)) (λ t. May (build t)) (λ t. May (check t)) (λ t x. May (locate t x)) (λ t x. May (evaluate t x)) (λ t x. May (float-answer t x)) (λ c t. May (changed-points c t)) Wrong
+another-point Wrong = by-call (λ s h z m n. May (judge s h z m n)) (λ t. May (points t)) (λ t. May (build t)) (λ t. May (check t)) (λ t x. May (locate t x)) (λ t x. May (evaluate t x)) (λ t x. May (float-answer t x)) (λ c t. May (changed-points c t)) Wrong
 
 -- ---- the first demand's middle sentence, both ways, of a call whose right refusal is known
 
@@ -100,13 +100,13 @@ module _ {I : Implementation} (d : Demand1 I) (call : Call) (o : Outcome call) (
 
 -- "points (0,0), (3,−10) have slopes −853, −853"; and, by request 2 of document 02, "points (0,0), (1,1), (2,4) now have slopes 0, 384, 1024", and "(0,0), (1,1), (2,4), (3,7) have 0, 384, 768, 768"
 abbrev pub two : Table
-two = table (pos 0 ∷ pos 3 ∷ []) (pos 0 ∷ negsuc 9 ∷ []) (negsuc 852 ∷ negsuc 852 ∷ [])
+two = table 8 (pos 0 ∷ pos 3 ∷ []) (pos 0 ∷ negsuc 9 ∷ []) (negsuc 852 ∷ negsuc 852 ∷ [])
 
 abbrev pub three : Table
-three = table (pos 0 ∷ pos 1 ∷ pos 2 ∷ []) (pos 0 ∷ pos 1 ∷ pos 4 ∷ []) (pos 0 ∷ pos 384 ∷ pos 1024 ∷ [])
+three = table 8 (pos 0 ∷ pos 1 ∷ pos 2 ∷ []) (pos 0 ∷ pos 1 ∷ pos 4 ∷ []) (pos 0 ∷ pos 384 ∷ pos 1024 ∷ [])
 
 abbrev pub four : Table
-four = table (pos 0 ∷ pos 1 ∷ pos 2 ∷ pos 3 ∷ []) (pos 0 ∷ pos 1 ∷ pos 4 ∷ pos 7 ∷ []) (pos 0 ∷ pos 384 ∷ pos 768 ∷ pos 768 ∷ [])
+four = table 8 (pos 0 ∷ pos 1 ∷ pos 2 ∷ pos 3 ∷ []) (pos 0 ∷ pos 1 ∷ pos 4 ∷ pos 7 ∷ []) (pos 0 ∷ pos 384 ∷ pos 768 ∷ pos 768 ∷ [])
 
 pub two-within : PointsWithin (two .knots) (two .values)
 two-within = points-by-test _ _ refl (count tt tt) tt
@@ -118,11 +118,11 @@ pub four-within : PointsWithin (four .knots) (four .values)
 four-within = points-by-test _ _ refl (count tt tt) tt
 
 -- they are what a build leaves, over any list of as many slopes, and they pass the table check
-pub two-built : (before : List ℤ) → length before ≡ 2 → Built (two .knots) (two .values) before (two .slopes) 0 0
-two-built before l = has-slopes two-within refl l
+pub two-built : (before : List ℤ) → length before ≡ 2 → Built (table 8 (two .knots) (two .values) before) (two .slopes) 0 0
+two-built before l = has-slopes eighth two-within refl l
 
-pub four-built : (before : List ℤ) → length before ≡ 4 → Built (four .knots) (four .values) before (four .slopes) 0 0
-four-built before l = has-slopes four-within refl l
+pub four-built : (before : List ℤ) → length before ≡ 4 → Built (table 8 (four .knots) (four .values) before) (four .slopes) 0 0
+four-built before l = has-slopes eighth four-within refl l
 
 pub two-passes : Given (Holds two) checkOrder 0 0
 two-passes = a-built-table-passes-the-table-check (two-built (two .slopes) refl)
@@ -141,10 +141,10 @@ pub record ThePapersTest (Z a b : ℤ) : Type 0 where
   pub ends-with-the-rise : pos 0 <ℤ b
   pub one-of-four : ((a +ℤ b) ≤ℤ (pos 2 *ℤ Z)) ⊎ (((pos 2 *ℤ a +ℤ b) ≤ℤ (pos 3 *ℤ Z)) ⊎ (((a +ℤ pos 2 *ℤ b) ≤ℤ (pos 3 *ℤ Z)) ⊎ ((a *ℤ a +ℤ a *ℤ b +ℤ b *ℤ b -ℤ pos 6 *ℤ Z *ℤ (a +ℤ b) +ℤ pos 9 *ℤ (Z *ℤ Z)) <ℤ pos 0)))
 
-pub data ByThePaper (h z m n : ℤ) : Outcome (judge h z m n) → Type 0 where
-  accepted : pos 0 <ℤ z → ThePapersTest (unit *ℤ z) (m *ℤ h) (n *ℤ h) → ByThePaper h z m n (outcome 0 0 rising tt)
-  turned-away : pos 0 <ℤ z → (ThePapersTest (unit *ℤ z) (m *ℤ h) (n *ℤ h) → ⊥) → ByThePaper h z m n (outcome 0 0 bends tt)
-  otherwise : {o : Outcome (judge h z m n)} → (pos 0 <ℤ z → ⊥) → May (judge h z m n) o → ByThePaper h z m n o
+pub data ByThePaper (s : ℕ) (h z m n : ℤ) : Outcome (judge s h z m n) → Type 0 where
+  accepted : pos 0 <ℤ z → ThePapersTest (unit s *ℤ z) (m *ℤ h) (n *ℤ h) → ByThePaper s h z m n (outcome 0 0 rising tt)
+  turned-away : pos 0 <ℤ z → (ThePapersTest (unit s *ℤ z) (m *ℤ h) (n *ℤ h) → ⊥) → ByThePaper s h z m n (outcome 0 0 bends tt)
+  otherwise : {o : Outcome (judge s h z m n)} → (pos 0 <ℤ z → ⊥) → May (judge s h z m n) o → ByThePaper s h z m n o
 
 pub not-by-less : ThePapersTest (pos 256) (pos 768) (pos 768) → ⊥
 not-by-less t = ⊎-elim (λ l. l .le) (⊎-elim (λ l. l .le) (⊎-elim (λ l. l .le) (λ l. l .lt))) (t .one-of-four)
@@ -154,7 +154,7 @@ abbrev pub lowering : Change
 lowering = record { point = 0; knot = pos 0; value = negsuc 1 }
 
 abbrev pub lowered : Table
-lowered = table (four .knots) (negsuc 1 ∷ pos 1 ∷ pos 4 ∷ pos 7 ∷ []) (pos 768 ∷ pos 768 ∷ pos 768 ∷ pos 768 ∷ [])
+lowered = table 8 (four .knots) (negsuc 1 ∷ pos 1 ∷ pos 4 ∷ pos 7 ∷ []) (pos 768 ∷ pos 768 ∷ pos 768 ∷ pos 768 ∷ [])
 
 pub lowered-within : PointsWithin (lowered .knots) (lowered .values)
 lowered-within = points-by-test _ _ refl (count tt tt) tt
@@ -162,5 +162,5 @@ lowered-within = points-by-test _ _ refl (count tt tt) tt
 pub is-lowered : Changed lowering four lowered 0 0
 is-lowered = point-0-lowered
 
-pub lowered-built : (before : List ℤ) → length before ≡ 4 → Built (lowered .knots) (lowered .values) before (lowered .slopes) 0 0
-lowered-built before l = has-slopes lowered-within refl l
+pub lowered-built : (before : List ℤ) → length before ≡ 4 → Built (table 8 (lowered .knots) (lowered .values) before) (lowered .slopes) 0 0
+lowered-built before l = has-slopes eighth lowered-within refl l

@@ -9,7 +9,7 @@ use lib.IntN.{ℤ, pos, negsuc, _*ℤ_}
 use lib.Signed.{_≤ℤ_, leZ, ltZ, leZ-yes, ltZ-yes}
 use lib.ListN.{length}
 use Rattle.integers.specs.Promise.{Between}
-use Rattle.cubic.specs.Piece.{unit, slopeAt, Monotone}
+use Rattle.cubic.specs.Piece.{slopeAt, Monotone}
 use Rattle.cubic.specs.Slope.{over}
 use Rattle.cubic.specs.Test.{line, oval, short-accepts}
 use Rattle.cubic.specs.Monotone.{monotone-rising}
@@ -62,15 +62,15 @@ too-narrow l f = width-outside (lit< l) (λ w. above f (w .low))
 pub too-high : {t : Table} {i : ℕ} → T (ltb (i + 1) (pointCount t)) → T (not (leZ (step (t .values) i) (pos 1048576))) → Holds t 4 i
 too-high l f = rise-outside (lit< l) (λ w. above f (w .high))
 
-pub against-its-rise : {h z m n : ℤ} (k q : ℕ) → T (ltZ (pos 0) z) → T (leb 1 q) → T (leb k q) → T (not (leZ (pos 0) (slopeAt (unit *ℤ z) (m *ℤ h) (n *ℤ h) (pos k) (pos q)))) → Monotone unit h z m n → ⊥
+pub against-its-rise : {U h z m n : ℤ} (k q : ℕ) → T (ltZ (pos 0) z) → T (leb 1 q) → T (leb k q) → T (not (leZ (pos 0) (slopeAt (U *ℤ z) (m *ℤ h) (n *ℤ h) (pos k) (pos q)))) → Monotone U h z m n → ⊥
 against-its-rise k q z₀ q₁ k₁ f o = above f (o .rising (ltZ-yes z₀) .at k q (lit≤ q₁) (lit≤ k₁))
 
 -- a rise that is monotone, as its slopes lie below the line or in the ellipse
-pub below-the-line : {h z m n : ℤ} → T (ltZ (pos 0) z) → T (leZ (pos 0) (m *ℤ h)) → T (leZ (pos 0) (n *ℤ h)) → T (leZ (over (unit *ℤ z) (m *ℤ h) (n *ℤ h)) (pos 0)) → Monotone unit h z m n
+pub below-the-line : {U h z m n : ℤ} → T (ltZ (pos 0) z) → T (leZ (pos 0) (m *ℤ h)) → T (leZ (pos 0) (n *ℤ h)) → T (leZ (over (U *ℤ z) (m *ℤ h) (n *ℤ h)) (pos 0)) → Monotone U h z m n
 below-the-line z₀ a₀ b₀ l = monotone-rising (ltZ-yes z₀) (short-accepts (line (leZ-yes a₀) (leZ-yes b₀) (leZ-yes l)))
 
-pub in-the-ellipse : {h z m n : ℤ} → T (ltZ (pos 0) z) → T (leZ (pos 0) (m *ℤ h)) → T (leZ (pos 0) (n *ℤ h)) → T (ltZ (pos 0) (over (unit *ℤ z) (m *ℤ h) (n *ℤ h)))
-    → T (leZ (over (unit *ℤ z) (m *ℤ h) (n *ℤ h) *ℤ over (unit *ℤ z) (m *ℤ h) (n *ℤ h)) (m *ℤ h *ℤ (n *ℤ h))) → Monotone unit h z m n
+pub in-the-ellipse : {U h z m n : ℤ} → T (ltZ (pos 0) z) → T (leZ (pos 0) (m *ℤ h)) → T (leZ (pos 0) (n *ℤ h)) → T (ltZ (pos 0) (over (U *ℤ z) (m *ℤ h) (n *ℤ h)))
+    → T (leZ (over (U *ℤ z) (m *ℤ h) (n *ℤ h) *ℤ over (U *ℤ z) (m *ℤ h) (n *ℤ h)) (m *ℤ h *ℤ (n *ℤ h))) → Monotone U h z m n
 in-the-ellipse z₀ a₀ b₀ l i = monotone-rising (ltZ-yes z₀) (short-accepts (oval (leZ-yes a₀) (leZ-yes b₀) (ltZ-yes l) (record { inside = leZ-yes i })))
 
 -- a position in piece i, and not at the last knot

@@ -73,7 +73,7 @@ mean-rule {U} {h₁} {h₂} z₁ z₂ u p q =
     above₀ t =
         let a = both-sizes z₁ z₂ t .0 in
         let b = both-sizes z₁ z₂ t .1 in
-        search positives
+        search positives depth 9 fits 9000
 
     below₀ : pos 0 <ℤ (z₁ *ℤ z₂) → pos 0 <ℤ below
     below₀ = 0<-below z₁ z₂ p q

@@ -1,4 +1,4 @@
--- "The sixteen cases marked P are proved together as a single list with a single statement": what an implementation answers in each. The first two lists of slopes are as request 2 of document 02 amends them, and the last case as request 6 does. This file has no proof;
+-- "The sixteen cases marked P are proved together as a single list with a single statement": what an implementation answers in each, in the unit 1/256 of document 01, which is s = 8. The first two lists of slopes are as request 2 of document 02 amends them, and the last case as request 6 does. This file has no proof;
 -- `SixteenGiven.antt` shows that ours gives them. `Demands.antt` says how to read it.
 use mathlib.Core.Path.{_≡_}
 use mathlib.Core.List.{List, [], _∷_}
@@ -40,14 +40,14 @@ module _ (I : Implementation) where
   -- What a case says: out of a call of `judge` may come 0 at place 0 and this verdict, and nothing else; of `build`, over any list of as many slopes, 0 at place 0 and these slopes, and
   -- nothing else; and of `evaluate`, over the table that `build` leaves, 0 at place 0 and this value, and nothing else.
   abbrev pub Gives : Case → Type 0
-  Gives (piece h z m n verdict) = I .May (judge h z m n) (record { number = 0; place = 0; answer = verdict; lists = tt })
-      × ((o : Outcome (judge h z m n)) → I .May (judge h z m n) o → (o .number ≡ 0) × (o .place ≡ 0) × (o .answer ≡ verdict))
+  Gives (piece h z m n verdict) = I .May (judge 8 h z m n) (record { number = 0; place = 0; answer = verdict; lists = tt })
+      × ((o : Outcome (judge 8 h z m n)) → I .May (judge 8 h z m n) o → (o .number ≡ 0) × (o .place ≡ 0) × (o .answer ≡ verdict))
   Gives (slopes knots values these) = (before : List ℤ) → length before ≡ length knots
-      → I .May (build (table knots values before)) (record { number = 0; place = 0; answer = tt; lists = these })
-      × ((o : Outcome (build (table knots values before))) → I .May (build (table knots values before)) o → (o .number ≡ 0) × (o .place ≡ 0) × (o .lists ≡ these))
-  Gives (value knots values x v) = (before : List ℤ) → length before ≡ length knots → (o : Outcome (build (table knots values before))) → I .May (build (table knots values before)) o
-      → I .May (evaluate (table knots values (o .lists)) x) (record { number = 0; place = 0; answer = v; lists = tt })
-      × ((p : Outcome (evaluate (table knots values (o .lists)) x)) → I .May (evaluate (table knots values (o .lists)) x) p → (p .number ≡ 0) × (p .place ≡ 0) × (p .answer ≡ v))
+      → I .May (build (table 8 knots values before)) (record { number = 0; place = 0; answer = tt; lists = these })
+      × ((o : Outcome (build (table 8 knots values before))) → I .May (build (table 8 knots values before)) o → (o .number ≡ 0) × (o .place ≡ 0) × (o .lists ≡ these))
+  Gives (value knots values x v) = (before : List ℤ) → length before ≡ length knots → (o : Outcome (build (table 8 knots values before))) → I .May (build (table 8 knots values before)) o
+      → I .May (evaluate (table 8 knots values (o .lists)) x) (record { number = 0; place = 0; answer = v; lists = tt })
+      × ((p : Outcome (evaluate (table 8 knots values (o .lists)) x)) → I .May (evaluate (table 8 knots values (o .lists)) x) p → (p .number ≡ 0) × (p .place ≡ 0) × (p .answer ≡ v))
 
   infixr 20 _&_
   -- every case of a list

@@ -6,10 +6,10 @@ use lib.Dec.{T, leb, lit<, lit≤}
 use lib.IntN.{ℤ, pos, negℤ, _*ℤ_}
 use lib.Signed.{_≤ℤ_, _<ℤ_, leZ, leZ-yes, ltZ-yes}
 use lib.ListN.{length}
-use Rattle.cubic.specs.Piece.{unit, slopeAt}
+use Rattle.cubic.specs.Piece.{slopeAt}
 use Rattle.cubic.specs.Test.{Short, line, oval, short-accepts}
 use Rattle.cubic.specs.Monotone.{monotone-rising, monotone-falling, monotone-level}
-use Rattle.rules.specs.Limits.{CountWithin, WidthWithin, RiseWithin}
+use Rattle.rules.specs.Limits.{unit, UnitWithin, CountWithin, WidthWithin, RiseWithin}
 use Rattle.rules.specs.Refusals.{answered}
 use Rattle.rules.specs.Order.{went-on}
 use Rattle.table.specs.Table.{table}
@@ -33,16 +33,19 @@ use Rattle.demands.specs.Sixteen.{piece, slopes, value, sixteen, Gives, 
 
 -- ---- a piece that does not bend, by the test that decides the definition, and one that does, at a fraction where its slope is against its rise
 
-module _ {h z m n : ℤ} where
-  rises : pos 0 <ℤ z → WidthWithin h → RiseWithin z → Short (unit *ℤ z) (m *ℤ h) (n *ℤ h) → Judged h z m n (ruling 0 0 (leaning z))
-  rises p w r s = monotone w r (monotone-rising p (short-accepts s))
+pub eighth : UnitWithin 8
+eighth = record { high = lit≤ tt }
 
-  falls : z <ℤ pos 0 → WidthWithin h → RiseWithin z → Short (negℤ (unit *ℤ z)) (negℤ (m *ℤ h)) (negℤ (n *ℤ h)) → Judged h z m n (ruling 0 0 (leaning z))
-  falls p w r s = monotone w r (monotone-falling p (short-accepts s))
+module _ {h z m n : ℤ} where
+  rises : pos 0 <ℤ z → WidthWithin h → RiseWithin z → Short (unit 8 *ℤ z) (m *ℤ h) (n *ℤ h) → Judged 8 h z m n (ruling 0 0 (leaning z))
+  rises p w r s = monotone eighth w r (monotone-rising p (short-accepts s))
+
+  falls : z <ℤ pos 0 → WidthWithin h → RiseWithin z → Short (negℤ (unit 8 *ℤ z)) (negℤ (m *ℤ h)) (negℤ (n *ℤ h)) → Judged 8 h z m n (ruling 0 0 (leaning z))
+  falls p w r s = monotone eighth w r (monotone-falling p (short-accepts s))
 
   -- at the fraction k/q
-  against : pos 0 <ℤ z → WidthWithin h → RiseWithin z → (k q : ℕ) → 1 ≤ q → k ≤ q → (pos 0 ≤ℤ slopeAt (unit *ℤ z) (m *ℤ h) (n *ℤ h) (pos k) (pos q) → ⊥) → Judged h z m n (ruling 0 0 bends)
-  against p w r k q q₁ k₁ f = bent w r (λ o. f (o .rising p .at k q q₁ k₁))
+  against : pos 0 <ℤ z → WidthWithin h → RiseWithin z → (k q : ℕ) → 1 ≤ q → k ≤ q → (pos 0 ≤ℤ slopeAt (unit 8 *ℤ z) (m *ℤ h) (n *ℤ h) (pos k) (pos q) → ⊥) → Judged 8 h z m n (ruling 0 0 bends)
+  against p w r k q q₁ k₁ f = bent eighth w r (λ o. f (o .rising p .at k q q₁ k₁))
 
 one-is-not-none : pos 1 ≡ pos 0 → ⊥
 one-is-not-none e = absurd (subst (λ (x : ℤ). T (leZ (pos 1) x)) e tt)
@@ -52,31 +55,32 @@ one-is-not-none e = absurd (subst (λ (x : ℤ). T (leZ (pos 1) x)) e tt)
 pub count : {n : ℕ} → T (leb 2 n) → T (leb n 1024) → CountWithin n
 count s t = record { low = lit≤ s; high = lit≤ t }
 
-pub has-slopes : {knots values these before : List ℤ} → PointsWithin knots values → these ≡ builtSlopes knots values → length before ≡ length knots → Built knots values before these 0 0
-has-slopes p e l = record { refusal = points-accepted p l; slopes = e }
+pub has-slopes : {s : ℕ} {knots values these before : List ℤ} → UnitWithin s → PointsWithin knots values → these ≡ builtSlopes (unit s) knots values → length before ≡ length knots → Built (table s knots values before) these 0 0
+has-slopes u p e l = record { refusal = points-accepted u p l; slopes = e }
 
-pub has-value : {knots values before after : List ℤ} {x v : ℤ} → WithinKnots knots x → Belongs knots x 0 → v ≡ valueOn (table knots values (builtSlopes knots values)) 0 x → Built knots values before after 0 0 → Evaluated (table knots values after) x 0 0 v
-has-value {knots} {values} {x = x} w p e b =
+pub has-value : {s : ℕ} {knots values before after : List ℤ} {x v : ℤ} → WithinKnots knots x → Belongs knots x 0 → v ≡ valueOn (table s knots values (builtSlopes (unit s) knots values)) 0 x → Built (table s knots values before) after 0 0
+    → Evaluated (table s knots values after) x 0 0 v
+has-value {s} {knots} {values} {x = x} w p e b =
     record {
       refusal = went-on refl (as-checked (a-built-table-passes-the-table-check b)) (taken-inside w);
-      value = answered (record { piece = 0; belongs = p; is = e ∙ ap (λ (slopes : List ℤ). valueOn (table knots values slopes) 0 x) (sym (b .slopes)) });
+      value = answered (record { piece = 0; belongs = p; is = e ∙ ap (λ (slopes : List ℤ). valueOn (table s knots values slopes) 0 x) (sym (b .slopes)) });
     }
 
 -- ---- so what keeps the promises gives them
 
 module _ {I : Implementation} (k : Keeps I) where
-  a-piece : {h z m n : ℤ} {finding : Finding} → Judged h z m n (ruling 0 0 finding) → Gives I (piece h z m n finding)
-  a-piece {h} {z} {m} {n} j = (k .allowed (judge h z m n) _ j, λ o p. let e = one-ruling (k .promised (judge h z m n) o p) j in (ap numberOf e, ap placeOf e, ap findingOf e))
+  a-piece : {h z m n : ℤ} {finding : Finding} → Judged 8 h z m n (ruling 0 0 finding) → Gives I (piece h z m n finding)
+  a-piece {h} {z} {m} {n} j = (k .allowed (judge 8 h z m n) _ j, λ o p. let e = one-ruling (k .promised (judge 8 h z m n) o p) j in (ap numberOf e, ap placeOf e, ap findingOf e))
 
-  some-slopes : {knots values these : List ℤ} → PointsWithin knots values → these ≡ builtSlopes knots values → Gives I (slopes knots values these)
+  some-slopes : {knots values these : List ℤ} → PointsWithin knots values → these ≡ builtSlopes (unit 8) knots values → Gives I (slopes knots values these)
   some-slopes {knots} {values} p e before l =
-      (k .allowed (build (table knots values before)) _ (has-slopes p e l), λ o q. one-build (k .promised (build (table knots values before)) o q) (has-slopes p e l))
+      (k .allowed (build (table 8 knots values before)) _ (has-slopes eighth p e l), λ o q. one-build (k .promised (build (table 8 knots values before)) o q) (has-slopes eighth p e l))
 
-  a-value : {knots values : List ℤ} {x v : ℤ} → PointsWithin knots values → WithinKnots knots x → Belongs knots x 0 → v ≡ valueOn (table knots values (builtSlopes knots values)) 0 x → Gives I (value knots values x v)
+  a-value : {knots values : List ℤ} {x v : ℤ} → PointsWithin knots values → WithinKnots knots x → Belongs knots x 0 → v ≡ valueOn (table 8 knots values (builtSlopes (unit 8) knots values)) 0 x → Gives I (value knots values x v)
   a-value {knots} {values} {x} p w b e before l o q =
-      let built = one-build (k .promised (build (table knots values before)) o q) (has-slopes p refl l) in
-      let is = has-value {before = before} w b e (has-slopes p (built .2) l) in
-      (k .allowed (evaluate (table knots values (o .lists)) x) _ is, λ r s. one-evaluation (k .promised (evaluate (table knots values (o .lists)) x) r s) is)
+      let built = one-build (k .promised (build (table 8 knots values before)) o q) (has-slopes eighth p refl l) in
+      let is = has-value {before = before} w b e (has-slopes eighth p (built .2) l) in
+      (k .allowed (evaluate (table 8 knots values (o .lists)) x) _ is, λ r s. one-evaluation (k .promised (evaluate (table 8 knots values (o .lists)) x) r s) is)
 
   pub the-sixteen-are-given : TheSixteen I
   the-sixteen-are-given = record { sixteen-of-them = refl; each-is-given = given }
@@ -91,8 +95,8 @@ module _ {I : Implementation} (k : Keeps I) where
           & a-piece (against (ltZ-yes tt) (within tt tt) (within tt tt) 1535 2301 (lit≤ tt) (lit≤ tt) (λ s. s .le))
           & a-piece (rises (ltZ-yes tt) (within tt tt) (within tt tt) (line (leZ-yes tt) (leZ-yes tt) (leZ-yes tt)))
           & a-piece (against (ltZ-yes tt) (within tt tt) (within tt tt) 770 771 (lit≤ tt) (lit≤ tt) (λ s. s .le))
-          & a-piece (monotone (within tt tt) (within tt tt) (monotone-level refl refl refl))
-          & a-piece (bent (within tt tt) (within tt tt) (λ o. one-is-not-none (o .level refl .0)))
+          & a-piece (monotone eighth (within tt tt) (within tt tt) (monotone-level refl refl refl))
+          & a-piece (bent eighth (within tt tt) (within tt tt) (λ o. one-is-not-none (o .level refl .0)))
           & a-piece (falls (ltZ-yes tt) (within tt tt) (within tt tt) (oval (leZ-yes tt) (leZ-yes tt) (ltZ-yes tt) (record { inside = leZ-yes tt })))
           & a-piece (rises (ltZ-yes tt) (within tt tt) (within tt tt) (oval (leZ-yes tt) (leZ-yes tt) (ltZ-yes tt) (record { inside = leZ-yes tt })))
           & some-slopes (points-by-test _ _ refl (count tt tt) tt) refl

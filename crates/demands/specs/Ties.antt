@@ -17,9 +17,8 @@ use Rattle.rules.specs.Order.{one-given}
 use Rattle.piece.specs.declared.Cubic.{Cubic}
 use Rattle.piece.specs.Cubic.{Coefficients}
 use Rattle.piece.specs.Determined.{one-verdict}
-use Rattle.cubic.specs.Piece.{unit}
 use Rattle.table.specs.Table.{Table, table}
-use Rattle.table.specs.Accepted.{Accepted}
+use Rattle.table.specs.Accepted.{PointsWithin}
 use Rattle.slopes.specs.Determined.{one-build}
 use Rattle.position.specs.declared.Spot.{Spot}
 use Rattle.position.specs.declared.Sought.{Sought}
@@ -58,6 +57,8 @@ use Rattle.lists.proofs.set.Reads as lists·set
 use Rattle.lists.proofs.append_row.Reads as lists·append_row
 use Rattle.commands.proofs.parse.Reads as commands·parse
 use Rattle.replies.proofs.append_reply.Reads as replies·append_reply
+use Rattle.rules.proofs.unit_within.Reads as rules·unit_within
+use Rattle.rules.proofs.unit.Reads as rules·unit
 use Rattle.rules.proofs.count_within.Reads as rules·count_within
 use Rattle.rules.proofs.width_within.Reads as rules·width_within
 use Rattle.rules.proofs.rise_within.Reads as rules·rise_within
@@ -90,6 +91,7 @@ use Rattle.exports.proofs.negwafir_whole32.Reads as exports·negwafir_whole32
 use Rattle.exports.proofs.negwafir_append_natural.Reads as exports·negwafir_append_natural
 use Rattle.exports.proofs.negwafir_append_whole.Reads as exports·negwafir_append_whole
 use Rattle.exports.proofs.negwafir_append_whole32.Reads as exports·negwafir_append_whole32
+use Rattle.exports.proofs.negwafir_unit_within.Reads as exports·negwafir_unit_within
 use Rattle.exports.proofs.negwafir_count_within.Reads as exports·negwafir_count_within
 use Rattle.exports.proofs.negwafir_width_within.Reads as exports·negwafir_width_within
 use Rattle.exports.proofs.negwafir_rise_within.Reads as exports·negwafir_rise_within
@@ -112,7 +114,7 @@ Tied {L} {W} {A} {R} {S} Pre Post seen =
 abbrev pub TiedWhere : {L W : Type 0} {A R S : L → Type 0} → ((κs : L) → A κs → Type 0) → ((κs : L) → A κs → R κs → S κs → Type 0) → ((κs : L) → R κs → S κs → W) → Type 0
 TiedWhere {L} {W} {A} {R} {S} Pre Post seen = (κs : L) (a : A κs) (r s : R κs) (x y : S κs) → Pre κs a → Post κs a r x → Post κs a s y → seen κs r x ≡ seen κs s y
 
--- what is returned; what a returned part of a list holds; and what is returned with the first list, the third, or all three
+-- what is returned; what a returned part of a list holds; and what is returned with the first list, or, of three lists behind a number, with the third or all three
 abbrev pub result : {L R S : Type 0} → L → R → S → R
 result κs r x = r
 
@@ -122,27 +124,27 @@ contents κs r x = now r
 abbrev pub with-first : {L R X S : Type 0} → L → R → RefT X × S → R × X
 with-first κs r x = (r, now (x .0))
 
-abbrev pub with-third : {L R X Y Z S : Type 0} → L → R → RefT X × (RefT Y × (RefT Z × S)) → R × Z
-with-third κs r x = (r, now (x .1 .1 .0))
+abbrev pub with-third : {L R N X Y Z S : Type 0} → L → R → N × (RefT X × (RefT Y × (RefT Z × S))) → R × Z
+with-third κs r x = (r, now (x .1 .1 .1 .0))
 
-abbrev pub with-three : {L R S : Type 0} → L → R → RefT (List ℤ) × (RefT (List ℤ) × (RefT (List ℤ) × S)) → R × Table
-with-three κs r x = (r, table (now (x .0)) (now (x .1 .0)) (now (x .1 .1 .0)))
+abbrev pub with-three : {L R N X Y Z S : Type 0} → L → R → N × (RefT X × (RefT Y × (RefT Z × S))) → R × (X × (Y × Z))
+with-three κs r x = (r, (now (x .1 .0), (now (x .1 .1 .0), now (x .1 .1 .1 .0))))
 
 -- ---- records, field by field
 
 one-refusal : {H : ℕ → ℕ → Type 0} {order : List ℕ} {r s : Refusal} → Given H order (r .number) (r .place) → Given H order (s .number) (s .place) → r ≡ s
 one-refusal p q = let e = one-given p q in λ i. record { number = e .0 i; place = e .1 i }
 
-one-cubic : {h z m n : ℤ} {r s : Cubic} → Coefficients unit h z m n (r .first) (r .second) (r .third) → Coefficients unit h z m n (s .first) (s .second) (s .third) → r ≡ s
+one-cubic : {U h z m n : ℤ} {r s : Cubic} → Coefficients U h z m n (r .first) (r .second) (r .third) → Coefficients U h z m n (s .first) (s .second) (s .third) → r ≡ s
 one-cubic p q =
     let first = p .first-is ∙ sym (q .first-is) in
     let second = p .second-is ∙ sym (q .second-is) in
     let third = p .third-is ∙ sym (q .third-is) in
     λ i. record { first = first i; second = second i; third = third i }
 
-one-spot : {tab : Table} {x : ℤ} {r s : Spot} → r .piece ≡ s .piece → SpotOn tab (r .piece) x (r .left) (r .h) (r .z) (r .m) (r .n) (r .t) → SpotOn tab (s .piece) x (s .left) (s .h) (s .z) (s .m) (s .n) (s .t) → r ≡ s
-one-spot {tab} {x} {r} {s} piece f q =
-    let p = subst (λ (i : ℕ). SpotOn tab i x (r .left) (r .h) (r .z) (r .m) (r .n) (r .t)) piece f in
+one-spot : {ks vs ss : List ℤ} {x : ℤ} {r s : Spot} → r .piece ≡ s .piece → SpotOn ks vs ss (r .piece) x (r .left) (r .h) (r .z) (r .m) (r .n) (r .t) → SpotOn ks vs ss (s .piece) x (s .left) (s .h) (s .z) (s .m) (s .n) (s .t) → r ≡ s
+one-spot {ks} {vs} {ss} {x} {r} {s} piece f q =
+    let p = subst (λ (i : ℕ). SpotOn ks vs ss i x (r .left) (r .h) (r .z) (r .m) (r .n) (r .t)) piece f in
     let left = p .left-is ∙ sym (q .left-is) in
     let h = p .h-is ∙ sym (q .h-is) in
     let z = p .z-is ∙ sym (q .z-is) in
@@ -151,11 +153,11 @@ one-spot {tab} {x} {r} {s} piece f q =
     let t = p .t-is ∙ sym (q .t-is) in
     λ i. record { piece = piece i; left = left i; h = h i; z = z i; m = m i; n = n i; t = t i }
 
-one-sought : {t : Table} {x : ℤ} {r s : Sought} → Accepted t → SoughtIn t x r → SoughtIn t x s → r ≡ s
+one-sought : {ks vs ss : List ℤ} {x : ℤ} {r s : Sought} → PointsWithin ks vs → SoughtIn ks vs ss x r → SoughtIn ks vs ss x s → r ≡ s
 one-sought a (outside f) (outside g) = refl
 one-sought a (outside f) (on w p) = absurd (f w)
 one-sought a (on w p) (outside f) = absurd (f w)
-one-sought a (on w p) (on v q) = ap On (one-spot (one-piece (a .limits) (p .belongs) (q .belongs)) p q)
+one-sought a (on w p) (on v q) = ap On (one-spot (one-piece a (p .belongs) (q .belongs)) p q)
 
 one-driven : {t : Table} {x : ℤ} (r s : Driven) → Driving t x (r .refusal .number) (r .refusal .place) (toldOf (r .answer)) → Driving t x (s .refusal .number) (s .refusal .place) (toldOf (s .answer)) → r ≡ s
 one-driven r s p q =
@@ -254,6 +256,12 @@ replies·append_reply-tied = (λ κs a. tt, λ κs a r s x y p q. λ i. (one-cou
 
 -- ---- rules
 
+pub rules·unit_within-tied : Tied rules·unit_within.Pre rules·unit_within.Post result
+rules·unit_within-tied = (λ κs a. tt, λ κs a r s x y p q. one-decision p q)
+
+pub rules·unit-tied : TiedWhere rules·unit.Pre rules·unit.Post result
+rules·unit-tied = λ κs a r s x y o p q. p .0 ∙ sym (q .0)
+
 pub rules·count_within-tied : Tied rules·count_within.Pre rules·count_within.Post result
 rules·count_within-tied = (λ κs a. tt, λ κs a r s x y p q. one-decision p q)
 
@@ -302,7 +310,7 @@ pub position·locate-tied : Tied position·locate.Pre position·locate.Post resu
 position·locate-tied = (λ κs a. tt, λ κs a r s x y p q. let e = one-place p q in λ i. record { refusal = record { number = e .0 i; place = e .1 i }; piece = e .2 i })
 
 pub position·seek-tied : TiedWhere position·seek.Pre position·seek.Post result
-position·seek-tied = λ κs a r s x y o p q. one-sought o p q
+position·seek-tied = λ κs a r s x y o p q. one-sought (o .0) p q
 
 -- ---- curve
 
@@ -317,7 +325,7 @@ drive·float_answer-tied = (λ κs a. tt, λ κs a r s x y p q. one-driven r s p
 -- ---- change
 
 pub change·point-tied : Tied change·point.Pre change·point.Post with-three
-change·point-tied = (λ κs a. tt, λ κs a r s x y p q. let e = one-change p q in λ i. (record { number = e .0 i; place = e .1 i }, e .2 i))
+change·point-tied = (λ κs a. tt, λ κs a r s x y p q. let e = one-change p q in λ i. (record { number = e .0 i; place = e .1 i }, (e .2 i .knots, (e .2 i .values, e .2 i .slopes))))
 
 -- ---- exports
 
@@ -366,6 +374,9 @@ exports·negwafir_append_whole-tied = (λ κs a. tt, λ κs a r s x y p q. λ i.
 pub exports·negwafir_append_whole32-tied : Tied exports·negwafir_append_whole32.Pre exports·negwafir_append_whole32.Post with-first
 exports·negwafir_append_whole32-tied = (λ κs a. tt, λ κs a r s x y p q. λ i. (one-count p q i, one-buffer p q i))
 
+pub exports·negwafir_unit_within-tied : Tied exports·negwafir_unit_within.Pre exports·negwafir_unit_within.Post result
+exports·negwafir_unit_within-tied = (λ κs a. tt, λ κs a r s x y p q. one-decision p q)
+
 pub exports·negwafir_count_within-tied : Tied exports·negwafir_count_within.Pre exports·negwafir_count_within.Post result
 exports·negwafir_count_within-tied = (λ κs a. tt, λ κs a r s x y p q. one-decision p q)
 
@@ -400,4 +411,4 @@ pub exports·negwafir_float_answer-tied : Tied exports·negwafir_float_answer.Pr
 exports·negwafir_float_answer-tied = (λ κs a. tt, λ κs a r s x y p q. one-told p q)
 
 pub exports·negwafir_change_point-tied : Tied exports·negwafir_change_point.Pre exports·negwafir_change_point.Post with-three
-exports·negwafir_change_point-tied = (λ κs a. tt, λ κs a r s x y p q. let e = one-change p q in λ i. (record { number = e .0 i; place = e .1 i }, e .2 i))
+exports·negwafir_change_point-tied = (λ κs a. tt, λ κs a r s x y p q. let e = one-change p q in λ i. (record { number = e .0 i; place = e .1 i }, (e .2 i .knots, (e .2 i .values, e .2 i .slopes))))

@@ -21,8 +21,8 @@ is-rising flat = false
 is-rising bends = false
 is-rising Finding.none = false
 
-pub a-refused-piece-called-rising : Document01 (answering (another-judge (λ h z m n o. o ≡ outcome 3 0 rising tt))) → ⊥
-a-refused-piece-called-rising d = apart is-rising (d .a-refused-call-answers-nothing {call = judge (pos 0) (pos 1) (pos 0) (pos 0)} {o = outcome 3 0 rising tt} refl (λ e. omega (arith, e))) tt tt
+pub a-refused-piece-called-rising : Document01 (answering (another-judge (λ s h z m n o. o ≡ outcome 3 0 rising tt))) → ⊥
+a-refused-piece-called-rising d = apart is-rising (d .a-refused-call-answers-nothing {call = judge 8 (pos 0) (pos 1) (pos 0) (pos 0)} {o = outcome 3 0 rising tt} refl (λ e. omega (arith, e))) tt tt
 
 -- "and its value, if it has one, is 0": 7 is answered at a position that is refused, and piece 7
 pub a-value-of-a-refused-position : Document01 (answering (another-evaluate (λ t x o. o ≡ outcome 6 0 (pos 7) tt))) → ⊥

@@ -11,12 +11,12 @@ use mir.Val.{SFits, toZ, ofZ}
 use mir.Syntax.{w32}
 use Rattle.cubic.specs.Monotone.{monotone-rising}
 use Rattle.cubic.specs.Test.{line, short-accepts}
-use Rattle.rules.specs.Limits.{CountWithin, WidthWithin}
+use Rattle.rules.specs.Limits.{UnitWithin, CountWithin, WidthWithin}
 use Rattle.rules.specs.Refusals.{Given, done, refused, passed}
 use Rattle.rules.specs.Order.{one-given, stopped, went-on}
 use Rattle.table.specs.declared.changed.Change.{Change}
 use Rattle.table.specs.Table.{Table, table, entry, step, SameLengths, Holds, width-outside, rise-outside, not-monotone, buildOrder, checkOrder}
-use Rattle.table.specs.Accepted.{points-accepted, same-length-passes, count-passes, accepted-table}
+use Rattle.table.specs.Accepted.{points-accepted, unit-passes, same-length-passes, count-passes, accepted-table}
 use Rattle.table.specs.Tested.{points-by-test}
 use Rattle.table.specs.WouldBe.{changedBy, HoldsAfter, changeOrder}
 use Rattle.piece.specs.Promise.{none}
@@ -30,7 +30,7 @@ use Rattle.demands.specs.Demands.{Call, judge, points, build, check, loc
 use Rattle.demands.specs.Ours.{May}
 use Rattle.demands.specs.Met.{width-taken}
 use Rattle.demands.specs.Shown.{by-a-build, by-a-check}
-use Rattle.demands.specs.SixteenGiven.{count, has-value}
+use Rattle.demands.specs.SixteenGiven.{eighth, count, has-value}
 use Rattle.demands.specs.Refuting.{within, the-point-is-there, not-outside, numbers-differ}
 use Rattle.demands.specs.Programs.{outcome, answering, another-judge, another-points, another-build, another-check, another-locate, another-evaluate, another-float-answer, another-changed-points, another-point, its-cause, its-refusal, two, two-built, four, four-within, lowering}
 
@@ -43,7 +43,7 @@ silent call o = ⊥
 -- What it is asked for: the same as `MayComeIn`, said again, so that the demand cannot be made to speak of fewer calls unseen.
 abbrev pub Asked : Call → Type 0
 Asked (float-answer t x) = (i : ℕ) → i < length (t .values) → SFits w32 (entry (t .values) i)
-Asked (judge h z m n) = Unit
+Asked (judge s h z m n) = Unit
 Asked (points t) = Unit
 Asked (build t) = Unit
 Asked (check t) = Unit
@@ -53,7 +53,7 @@ Asked (changed-points c t) = Unit
 Asked (point made c t) = Unit
 
 pub a-call-without-an-answer : (call : Call) → Asked call → Demand1 (answering silent) → ⊥
-a-call-without-an-answer (judge h z m n) a d = d .any-may-come-in (judge h z m n) tt .1
+a-call-without-an-answer (judge s h z m n) a d = d .any-may-come-in (judge s h z m n) tt .1
 a-call-without-an-answer (points t) a d = d .any-may-come-in (points t) tt .1
 a-call-without-an-answer (build t) a d = d .any-may-come-in (build t) tt .1
 a-call-without-an-answer (check t) a d = d .any-may-come-in (check t) tt .1
@@ -66,8 +66,8 @@ a-call-without-an-answer (point made c t) a d = d .any-may-come-in (point made c
 -- ======== "is given exactly when its cause holds and no earlier one does": a refusal without its cause
 
 -- "a verdict, builder, evaluation or change that always refuses (demand 1: a refusal only for its cause ..)"
-pub a-verdict-that-always-refuses : Demand1 (answering (another-judge (λ h z m n o. o ≡ outcome 3 0 none tt))) → ⊥
-a-verdict-that-always-refuses d = width-taken (within tt tt) 0 (its-cause d (judge (pos 1) (pos 1) (pos 256) (pos 256)) (outcome 3 0 none tt) refl 3 (omega arith) refl)
+pub a-verdict-that-always-refuses : Demand1 (answering (another-judge (λ s h z m n o. o ≡ outcome 3 0 none tt))) → ⊥
+a-verdict-that-always-refuses d = width-taken (within tt tt) 0 (its-cause d (judge 8 (pos 1) (pos 1) (pos 256) (pos 256)) (outcome 3 0 none tt) refl 3 (omega arith) refl)
 
 pub a-builder-that-always-refuses : Demand1 (answering (another-build (λ t o. o ≡ outcome 2 0 tt (t .slopes)))) → ⊥
 a-builder-that-always-refuses d = count-passes (count tt tt) 0 (its-cause d (build two) (outcome 2 0 tt (two .slopes)) refl 2 (omega arith) refl)
@@ -81,22 +81,22 @@ a-change-that-always-refuses d = the-point-is-there (lit< tt) (its-cause d (poin
 -- ======== the other way round: a cause without its refusal, or with another number or place
 
 -- the width of piece 1 is outside its limits, and that of piece 0 is not
-second-width : {t : Table} → SameLengths t → CountWithin (length (t .knots)) → 2 < length (t .knots) → WidthWithin (step (t .knots) 0) → (WidthWithin (step (t .knots) 1) → ⊥) → Given (Holds t) buildOrder 3 1
-second-width {t} s n l w f = passed (same-length-passes s) (passed (count-passes n) (refused (width-outside {i = 1} l f) before))
+second-width : {t : Table} → UnitWithin (t .s) → SameLengths (t .knots) (t .values) (t .slopes) → CountWithin (length (t .knots)) → 2 < length (t .knots) → WidthWithin (step (t .knots) 0) → (WidthWithin (step (t .knots) 1) → ⊥) → Given (Holds t) buildOrder 3 1
+second-width {t} u s n l w f = passed (unit-passes u) (passed (same-length-passes s) (passed (count-passes n) (refused (width-outside {i = 1} l f) before)))
   where
     before : (q : ℕ) → q < 1 → Holds t 3 q → ⊥
     before zero l (width-outside m f) = f w
     before (suc q) l h = absurd (omega (arith, l))
 
 pub a-check-that-never-refuses : Demand1 (answering (another-check (λ t o. o ≡ outcome 0 0 tt tt))) → ⊥
-a-check-that-never-refuses d = absurd (omega (arith, its-refusal d (check (opposite-ends (pos 0) (pos 0) (pos 0) (pos 0))) (outcome 0 0 tt tt) refl (omega arith) (by-a-check (pos 0) (pos 0) (pos 0) (pos 0)) .0))
+a-check-that-never-refuses d = absurd (omega (arith, its-refusal d (check (opposite-ends 8 (pos 0) (pos 0) (pos 0) (pos 0))) (outcome 0 0 tt tt) refl (omega arith) (by-a-check eighth (pos 0) (pos 0) (pos 0) (pos 0)) .0))
 
 -- (0,0), (1,2000000), (1,0): "So a rise fault at piece 0 and a width fault at piece 9 give 3 at place 9"
 abbrev late : Table
-late = table (pos 0 ∷ pos 1 ∷ pos 1 ∷ []) (pos 0 ∷ pos 2000000 ∷ pos 0 ∷ []) (pos 0 ∷ pos 0 ∷ pos 0 ∷ [])
+late = table 8 (pos 0 ∷ pos 1 ∷ pos 1 ∷ []) (pos 0 ∷ pos 2000000 ∷ pos 0 ∷ []) (pos 0 ∷ pos 0 ∷ pos 0 ∷ [])
 
 late-refused : Given (Holds late) buildOrder 3 1
-late-refused = second-width {t = late} (record { values = refl; slopes = refl }) (count tt tt) (lit< tt) (within tt tt) (λ w. w .low .le)
+late-refused = second-width {t = late} eighth (record { values = refl; slopes = refl }) (count tt tt) (lit< tt) (within tt tt) (λ w. w .low .le)
 
 -- the first faulty piece decides, whatever stands behind it
 pub data Faulty (t : Table) (i : ℕ) : ℕ → Type 0 where
@@ -113,12 +113,12 @@ the-first-faulty-piece-decides d = absurd (omega (arith, its-refusal d (points l
     wide (width-outside l f) = f (within tt tt)
 
 -- rises are asked before widths
-pub another-order : Demand1 (answering (another-points (λ t o. Given (Holds t) (1 ∷ 2 ∷ 4 ∷ 3 ∷ []) (o .number) (o .place)))) → ⊥
+pub another-order : Demand1 (answering (another-points (λ t o. Given (Holds t) (12 ∷ 1 ∷ 2 ∷ 4 ∷ 3 ∷ []) (o .number) (o .place)))) → ⊥
 another-order d =
     absurd (omega (
       arith,
       its-refusal d (points late) (outcome 4 0 tt tt)
-          (passed (same-length-passes (record { values = refl; slopes = refl })) (passed (count-passes (count tt tt)) (refused (rise-outside (lit< tt) (λ w. w .high .le)) (λ q l. absurd (omega (arith, l)))))) (omega arith) late-refused .0,
+          (passed (unit-passes eighth) (passed (same-length-passes (record { values = refl; slopes = refl })) (passed (count-passes (count tt tt)) (refused (rise-outside (lit< tt) (λ w. w .high .le)) (λ q l. absurd (omega (arith, l))))))) (omega arith) late-refused .0,
     ))
 
 pub a-place-that-is-always-0 : Demand1 (answering (another-points (λ t o. (p : ℕ) × (Given (Holds t) buildOrder (o .number) p × (o .place ≡ 0))))) → ⊥
@@ -133,15 +133,15 @@ onto-the-next-refused = point-1-moved-onto-point-2 .refusal
 
 pub a-change-asked-of-the-old-points : Demand1 (answering (another-changed-points (λ c t o. Given (Holds t) buildOrder (o .number) (o .place)))) → ⊥
 a-change-asked-of-the-old-points d =
-    absurd (omega (arith, its-refusal d (changed-points onto-the-next four) (outcome 0 0 tt tt) (points-accepted four-within refl) (omega arith) onto-the-next-refused .0))
+    absurd (omega (arith, its-refusal d (changed-points onto-the-next four) (outcome 0 0 tt tt) (points-accepted eighth four-within refl) (omega arith) onto-the-next-refused .0))
 
 -- "Looking at wanted pieces only, so that a fault elsewhere in the table goes unreported": (0,0), (3,−10), (3,0) at position 1
 abbrev faulty-elsewhere : Table
-faulty-elsewhere = table (pos 0 ∷ pos 3 ∷ pos 3 ∷ []) (pos 0 ∷ negsuc 9 ∷ pos 0 ∷ []) (negsuc 852 ∷ negsuc 852 ∷ pos 0 ∷ [])
+faulty-elsewhere = table 8 (pos 0 ∷ pos 3 ∷ pos 3 ∷ []) (pos 0 ∷ negsuc 9 ∷ pos 0 ∷ []) (negsuc 852 ∷ negsuc 852 ∷ pos 0 ∷ [])
 
 -- a piece by itself, as a table of two points
 abbrev piece-alone : Table → ℕ → Table
-piece-alone t i = table (two-of (t .knots)) (two-of (t .values)) (two-of (t .slopes))
+piece-alone t i = table (t .s) (two-of (t .knots)) (two-of (t .values)) (two-of (t .slopes))
   where
     two-of : List ℤ → List ℤ
     two-of list = entry list i ∷ entry list (i + 1) ∷ []
@@ -151,7 +151,7 @@ only-the-wanted-piece-looked-at d =
     absurd (omega (
       arith,
       its-refusal d (evaluate faulty-elsewhere (pos 1)) (outcome 0 0 (negsuc 2) tt) (0, (in-piece-0, has-value {before = two .slopes} (within tt tt) in-two refl (two-built (two .slopes) refl))) (omega arith)
-          (stopped (6 ∷ []) (λ e. omega arith) (as-checked (stopped (5 ∷ []) (λ e. omega arith) (second-width {t = faulty-elsewhere} (record { values = refl; slopes = refl }) (count tt tt) (lit< tt) (within tt tt) (λ w. w .low .le))))) .0,
+          (stopped (6 ∷ []) (λ e. omega arith) (as-checked (stopped (5 ∷ []) (λ e. omega arith) (second-width {t = faulty-elsewhere} eighth (record { values = refl; slopes = refl }) (count tt tt) (lit< tt) (within tt tt) (λ w. w .low .le))))) .0,
     ))
   where
     in-piece-0 : Belongs (faulty-elsewhere .knots) (pos 1) 0
@@ -162,10 +162,10 @@ only-the-wanted-piece-looked-at d =
 
 -- no piece is too large for the float answer: "h = 1,024 with z = 1,024 has a float answer; z = 1,025 has none"
 abbrev large : Table
-large = table (pos 0 ∷ pos 1024 ∷ []) (pos 0 ∷ pos 1025 ∷ []) (pos 0 ∷ pos 0 ∷ [])
+large = table 8 (pos 0 ∷ pos 1024 ∷ []) (pos 0 ∷ pos 1025 ∷ []) (pos 0 ∷ pos 0 ∷ [])
 
 large-passes : Given (Holds large) checkOrder 0 0
-large-passes = went-on refl (points-accepted (points-by-test _ _ refl (count tt tt) tt) refl) (passed no-bend done)
+large-passes = went-on refl (points-accepted eighth (points-by-test _ _ refl (count tt tt) tt) refl) (passed no-bend done)
   where
     no-bend : (i : ℕ) → Holds large 5 i → ⊥
     no-bend zero (not-monotone l f) = f (monotone-rising (ltZ-yes tt) (short-accepts (line (leZ-yes tt) (leZ-yes tt) (leZ-yes tt))))
@@ -191,10 +191,13 @@ pub data HoldsWrapped (t : Table) : ℕ → ℕ → Type 0 where
   width-wrapped : {i : ℕ} → i + 1 < length (t .knots) → (WidthWithin (wrapped (step (t .knots) i)) → ⊥) → HoldsWrapped t 3 i
 
 pub two-knots-subtracted-in-32-bits : Demand1 (answering (another-points (λ t o. Given (HoldsWrapped t) buildOrder (o .number) (o .place)))) → ⊥
-two-knots-subtracted-in-32-bits d = absurd (omega (arith, d .counts-at-opposite-ends-are-refused {call = points ends} {o = outcome 0 0 tt tt} its-points (passed lengths (passed number (passed widths (passed rises done)))) .0))
+two-knots-subtracted-in-32-bits d = absurd (omega (arith, d .counts-at-opposite-ends-are-refused {call = points ends} {o = outcome 0 0 tt tt} eighth its-points (passed units (passed lengths (passed number (passed widths (passed rises done))))) .0))
   where
     ends : Table
-    ends = opposite-ends (pos 0) (pos 0) (pos 0) (pos 0)
+    ends = opposite-ends 8 (pos 0) (pos 0) (pos 0) (pos 0)
+
+    units : (q : ℕ) → HoldsWrapped ends 12 q → ⊥
+    units q (another-cause f h) = unit-passes eighth q h
 
     lengths : (q : ℕ) → HoldsWrapped ends 1 q → ⊥
     lengths q (another-cause f h) = same-length-passes (record { values = refl; slopes = refl }) q h
@@ -215,8 +218,8 @@ two-knots-subtracted-in-32-bits d = absurd (omega (arith, d .counts-at-opposite-
 
 pub a-program-that-asks-for-checked-tables : Demand1 (record { Asks = λ call. (t : Table) → LooksAt t call → Given (Holds t) checkOrder 0 0; May = May }) → ⊥
 a-program-that-asks-for-checked-tables d =
-    let ends = opposite-ends (pos 0) (pos 0) (pos 0) (pos 0) in
-    absurd (omega (arith, one-given (d .nobody-is-asked (evaluate ends (pos 0)) ends (a-value (pos 0))) (by-a-check (pos 0) (pos 0) (pos 0) (pos 0)) .0))
+    let ends = opposite-ends 8 (pos 0) (pos 0) (pos 0) (pos 0) in
+    absurd (omega (arith, one-given (d .nobody-is-asked (evaluate ends (pos 0)) ends (a-value (pos 0))) (by-a-check eighth (pos 0) (pos 0) (pos 0) (pos 0)) .0))
 
 -- ======== 0 has place 0
 
@@ -227,8 +230,8 @@ done-at-another-place d = absurd (omega (arith, d .done-at-place-0 {call = locat
 
 pub a-builder-that-writes-though-it-refuses : Demand1 (answering (another-build (λ t o. Given (Holds t) buildOrder (o .number) (o .place) × (o .lists ≡ set (t .slopes) 0 (pos 0))))) → ⊥
 a-builder-that-writes-though-it-refuses d =
-    let ends = opposite-ends (pos 0) (pos 0) (pos 1) (pos 1) in
-    numbers-differ tt (ap (λ (slopes : List ℤ). entry slopes 0) (d .changes-no-list {call = build ends} {o = outcome 3 0 tt (pos 0 ∷ pos 1 ∷ [])} (by-a-build (pos 0) (pos 0) (pos 1) (pos 1), refl) (λ e. omega (arith, e))))
+    let ends = opposite-ends 8 (pos 0) (pos 0) (pos 1) (pos 1) in
+    numbers-differ tt (ap (λ (slopes : List ℤ). entry slopes 0) (d .changes-no-list {call = build ends} {o = outcome 3 0 tt (pos 0 ∷ pos 1 ∷ [])} (by-a-build eighth (pos 0) (pos 0) (pos 1) (pos 1), refl) (λ e. omega (arith, e))))
 
 pub a-change-that-writes-though-it-refuses : Demand1 (answering (another-point (λ made c t o. Given (HoldsAfter c t) changeOrder (o .number) (o .place) × (o .lists ≡ changedBy c t)))) → ⊥
 a-change-that-writes-though-it-refuses d =

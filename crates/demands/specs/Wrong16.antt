@@ -5,7 +5,7 @@ use Prim.Native.Nat.{ℕ, zero, suc}
 use lib.IntN.{ℤ, pos, negsuc, _+ℤ_}
 use lib.Signed.{leZ-yes, ltZ-yes}
 use Rattle.integers.specs.Promise.{floorOf}
-use Rattle.cubic.specs.Piece.{unit}
+use Rattle.rules.specs.Limits.{unit}
 use Rattle.cubic.specs.Value.{numerator, denominator}
 use Rattle.table.specs.Accepted.{points-accepted}
 use Rattle.table.specs.Table.{entry}
@@ -13,6 +13,7 @@ use Rattle.rules.specs.Refusals.{answered}
 use Rattle.piece.specs.Promise.{Finding, rising, falling, flat, bends}
 use Rattle.demands.specs.Demands.{Implementation}
 use Rattle.demands.specs.Sixteen.{Case, Gives, All, none, _&_, TheSixteen}
+use Rattle.demands.specs.SixteenGiven.{eighth}
 use Rattle.demands.specs.Refuting.{numbers-differ}
 use Rattle.demands.specs.Programs.{outcome, answering, another-judge, two, two-built, three-within, at-1, minus-three, ByThePaper, turned-away, not-by-less}
 use Rattle.demands.specs.WrongEnds.{at-the-first, secant}
@@ -49,16 +50,16 @@ not-by-the-signs s = numbers-differ tt (ap numbered (case (s .each-is-given) 4 .
 pub not-by-an-idle-builder : TheSixteen (answering (leaving idle-afterwards)) → ⊥
 not-by-an-idle-builder s =
     let before = pos 0 ∷ pos 0 ∷ pos 0 ∷ [] in
-    numbers-differ tt (ap (λ (slopes : List ℤ). entry slopes 1) (case (s .each-is-given) 12 before refl .1 (outcome 0 0 tt (pos 0 ∷ pos 0 ∷ pos 0 ∷ [])) (points-accepted three-within refl, refl) .2))
+    numbers-differ tt (ap (λ (slopes : List ℤ). entry slopes 1) (case (s .each-is-given) 12 before refl .1 (outcome 0 0 tt (pos 0 ∷ pos 0 ∷ pos 0 ∷ [])) (points-accepted eighth three-within refl, refl) .2))
 
 -- and so not by the rule that document 01 had, at the first end
 pub not-by-the-old-end-rule : TheSixteen (answering (at-the-first secant)) → ⊥
 not-by-the-old-end-rule s =
     let before = pos 0 ∷ pos 0 ∷ pos 0 ∷ [] in
-    numbers-differ tt (ap (λ (slopes : List ℤ). entry slopes 0) (case (s .each-is-given) 12 before refl .1 (outcome 0 0 tt (pos 256 ∷ pos 384 ∷ pos 1024 ∷ [])) (points-accepted three-within refl, refl) .2))
+    numbers-differ tt (ap (λ (slopes : List ℤ). entry slopes 0) (case (s .each-is-given) 12 before refl .1 (outcome 0 0 tt (pos 256 ∷ pos 384 ∷ pos 1024 ∷ [])) (points-accepted eighth three-within refl, refl) .2))
 
 -- the last: (0,0), (3,−10) have −3 at position 1, and not −4 or −2
-at-the-last : (round : ℤ → ℤ → ℤ) → TheSixteen (answering (valued-by (rounded-by round))) → pos 0 +ℤ round (numerator unit (pos 3) (negsuc 9) (negsuc 852) (negsuc 852) (pos 1)) (denominator unit (pos 3)) ≡ negsuc 2
+at-the-last : (round : ℤ → ℤ → ℤ) → TheSixteen (answering (valued-by (rounded-by round))) → pos 0 +ℤ round (numerator (unit 8) (pos 3) (negsuc 9) (negsuc 852) (negsuc 852) (pos 1)) (denominator (unit 8) (pos 3)) ≡ negsuc 2
 at-the-last round s = case (s .each-is-given) 15 (two .slopes) refl (outcome 0 0 tt (two .slopes)) (two-built (two .slopes) refl) .1 (outcome 0 0 _ tt) (minus-three .refusal, answered (0, (at-1, refl))) .2
 
 pub not-by-rounding-down : TheSixteen (answering (valued-by (rounded-by floorOf))) → ⊥

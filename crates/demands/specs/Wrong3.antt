@@ -8,6 +8,7 @@ use lib.Dec.{lit<, lit≤}
 use lib.IntN.{ℤ, pos}
 use lib.Signed.{ltZ-yes}
 use lib.ListN.{length, set}
+use Rattle.rules.specs.Limits.{unit}
 use Rattle.table.specs.declared.changed.Change.{Change}
 use Rattle.table.specs.Table.{Table, table, entry}
 use Rattle.table.specs.Tested.{points-by-test}
@@ -17,7 +18,7 @@ use Rattle.slopes.specs.Put.{put}
 use Rattle.change.specs.Change.{Renews, before-it, at-it, behind-it, slope-0, the-last, Changed}
 use Rattle.change.specs.Figures.{made, point-1-moved-onto-point-2}
 use Rattle.demands.specs.Demands.{Call, point, Outcome, none, next, JustThis, Demand3}
-use Rattle.demands.specs.SixteenGiven.{count, has-slopes}
+use Rattle.demands.specs.SixteenGiven.{eighth, count, has-slopes}
 use Rattle.demands.specs.Refuting.{numbers-differ}
 use Rattle.demands.specs.Programs.{outcome, answering, another-point, four, four-built, lowering, lowered, lowered-within, is-lowered, lowered-built}
 
@@ -40,28 +41,28 @@ abbrev raising : Change
 raising = record { point = 1; knot = pos 1; value = pos 2 }
 
 abbrev raised : Table
-raised = table (four .knots) (pos 0 ∷ pos 2 ∷ pos 4 ∷ pos 7 ∷ []) (pos 512 ∷ pos 512 ∷ pos 614 ∷ pos 896 ∷ [])
+raised = table 8 (four .knots) (pos 0 ∷ pos 2 ∷ pos 4 ∷ pos 7 ∷ []) (pos 512 ∷ pos 512 ∷ pos 614 ∷ pos 896 ∷ [])
 
 is-raised : Changed raising four raised 0 0
-is-raised = made raising four (lit< tt) refl (points-by-test _ _ refl (count tt tt) tt)
+is-raised = made raising four eighth (lit< tt) refl (points-by-test _ _ refl (count tt tt) tt)
 
 abbrev sinking : Change
 sinking = record { point = 2; knot = pos 2; value = pos 2 }
 
 abbrev sunk : Table
-sunk = table (four .knots) (pos 0 ∷ pos 1 ∷ pos 2 ∷ pos 7 ∷ []) (pos 256 ∷ pos 256 ∷ pos 426 ∷ pos 1792 ∷ [])
+sunk = table 8 (four .knots) (pos 0 ∷ pos 1 ∷ pos 2 ∷ pos 7 ∷ []) (pos 256 ∷ pos 256 ∷ pos 426 ∷ pos 1792 ∷ [])
 
 is-sunk : Changed sinking four sunk 0 0
-is-sunk = made sinking four (lit< tt) refl (points-by-test _ _ refl (count tt tt) tt)
+is-sunk = made sinking four eighth (lit< tt) refl (points-by-test _ _ refl (count tt tt) tt)
 
 abbrev moving : Change
 moving = record { point = 3; knot = pos 4; value = pos 7 }
 
 abbrev moved : Table
-moved = table (pos 0 ∷ pos 1 ∷ pos 2 ∷ pos 4 ∷ []) (four .values) (pos 0 ∷ pos 384 ∷ pos 531 ∷ pos 128 ∷ [])
+moved = table 8 (pos 0 ∷ pos 1 ∷ pos 2 ∷ pos 4 ∷ []) (four .values) (pos 0 ∷ pos 384 ∷ pos 531 ∷ pos 128 ∷ [])
 
 is-moved : Changed moving four moved 0 0
-is-moved = made moving four (lit< tt) refl (points-by-test _ _ refl (count tt tt) tt)
+is-moved = made moving four eighth (lit< tt) refl (points-by-test _ _ refl (count tt tt) tt)
 
 -- ======== "Each accepted change puts the new knot and value at that point, renews the slopes at it and beside it, and touches nothing else."
 
@@ -81,39 +82,39 @@ pub a-chain-idle-after-its-first-change : Demand3 (answering (leaving only-the-f
 a-chain-idle-after-its-first-change d = numbers-differ tt (to-be only-the-first d (moving ∷ []) lowering four is-lowered .value)
 
 abbrev pub the-old-knot : List Change → Change → (before ours : Table) → Table
-the-old-knot made c t u = table (t .knots) (u .values) (u .slopes)
+the-old-knot made c t u = table (u .s) (t .knots) (u .values) (u .slopes)
 
 pub a-knot-that-is-not-put : Demand3 (answering (leaving the-old-knot)) → ⊥
 a-knot-that-is-not-put d = numbers-differ tt (to-be the-old-knot d [] moving four is-moved .knot)
 
 -- "After a change, renewing only the slope of the changed point."
 abbrev pub its-slope-alone : List Change → Change → (before ours : Table) → Table
-its-slope-alone made c t u = table (u .knots) (u .values) (set (t .slopes) (c .point) (entry (u .slopes) (c .point)))
+its-slope-alone made c t u = table (u .s) (u .knots) (u .values) (set (t .slopes) (c .point) (entry (u .slopes) (c .point)))
 
 pub only-the-changed-points-slope-renewed : Demand3 (answering (leaving its-slope-alone)) → ⊥
 only-the-changed-points-slope-renewed d = to-be its-slope-alone d [] lowering four is-lowered .renewed-slopes 1 (lit< tt) (behind-it refl) .inner 0 refl (lit< tt) .size (ltZ-yes tt) .high .lt
 
 abbrev pub the-old-slope-before-it : List Change → Change → (before ours : Table) → Table
-the-old-slope-before-it made c t u = table (u .knots) (u .values) (set (u .slopes) (c .point - 1) (entry (t .slopes) (c .point - 1)))
+the-old-slope-before-it made c t u = table (u .s) (u .knots) (u .values) (set (u .slopes) (c .point - 1) (entry (t .slopes) (c .point - 1)))
 
 pub the-slope-before-it-not-renewed : Demand3 (answering (leaving the-old-slope-before-it)) → ⊥
 the-slope-before-it-not-renewed d = to-be the-old-slope-before-it d [] raising four is-raised .renewed-slopes 0 (lit< tt) (before-it refl) .first refl (lit< tt) .otherwise (ltZ-yes tt) (λ l. absurd (l .lt)) .size .high .lt
 
 abbrev pub the-last-knot-too : List Change → Change → (before ours : Table) → Table
-the-last-knot-too made c t u = table (set (u .knots) 3 (pos 9)) (u .values) (u .slopes)
+the-last-knot-too made c t u = table (u .s) (set (u .knots) 3 (pos 9)) (u .values) (u .slopes)
 
 pub another-knot-moved : Demand3 (answering (leaving the-last-knot-too)) → ⊥
 another-knot-moved d = numbers-differ tt (to-be the-last-knot-too d [] lowering four is-lowered .other-knots 3 (λ e. omega (arith, e)))
 
 abbrev pub the-last-value-too : List Change → Change → (before ours : Table) → Table
-the-last-value-too made c t u = table (u .knots) (set (u .values) 3 (pos 9)) (u .slopes)
+the-last-value-too made c t u = table (u .s) (u .knots) (set (u .values) 3 (pos 9)) (u .slopes)
 
 pub another-value-changed : Demand3 (answering (leaving the-last-value-too)) → ⊥
 another-value-changed d = numbers-differ tt (to-be the-last-value-too d [] lowering four is-lowered .other-values 3 (λ e. omega (arith, e)))
 
 -- a build in place of a change, where the last slope, 1, is somebody else's
 abbrev pub every-slope : List Change → Change → (before ours : Table) → Table
-every-slope made c t u = table (u .knots) (u .values) (builtSlopes (u .knots) (u .values))
+every-slope made c t u = table (u .s) (u .knots) (u .values) (builtSlopes (unit (u .s)) (u .knots) (u .values))
 
 pub every-slope-renewed : Demand3 (answering (leaving every-slope)) → ⊥
 every-slope-renewed d = numbers-differ tt (to-be every-slope d [] lowering foreign changed .other-slopes 3 (lit< tt) not-that-one)
@@ -126,29 +127,29 @@ every-slope-renewed d = numbers-differ tt (to-be every-slope d [] lowering forei
     not-that-one (the-last e f) = absurd (omega (arith, e))
 
     foreign : Table
-    foreign = table (four .knots) (four .values) (pos 0 ∷ pos 384 ∷ pos 768 ∷ pos 1 ∷ [])
+    foreign = table 8 (four .knots) (four .values) (pos 0 ∷ pos 384 ∷ pos 768 ∷ pos 1 ∷ [])
 
-    changed : Changed lowering foreign (table (lowered .knots) (lowered .values) (pos 768 ∷ pos 768 ∷ pos 768 ∷ pos 1 ∷ [])) 0 0
-    changed = made lowering foreign (lit< tt) refl lowered-within
+    changed : Changed lowering foreign (table 8 (lowered .knots) (lowered .values) (pos 768 ∷ pos 768 ∷ pos 768 ∷ pos 1 ∷ [])) 0 0
+    changed = made lowering foreign eighth (lit< tt) refl lowered-within
 
 -- a list that becomes longer
 abbrev one-more : List ℤ → List ℤ
 one-more list = list ++ pos 9 ∷ []
 
 abbrev pub one-more-knot : List Change → Change → (before ours : Table) → Table
-one-more-knot made c t u = table (one-more (u .knots)) (u .values) (u .slopes)
+one-more-knot made c t u = table (u .s) (one-more (u .knots)) (u .values) (u .slopes)
 
 pub a-knot-added : Demand3 (answering (leaving one-more-knot)) → ⊥
 a-knot-added d = absurd (omega (arith, to-be one-more-knot d [] lowering four is-lowered .as-many-knots))
 
 abbrev pub one-more-value : List Change → Change → (before ours : Table) → Table
-one-more-value made c t u = table (u .knots) (one-more (u .values)) (u .slopes)
+one-more-value made c t u = table (u .s) (u .knots) (one-more (u .values)) (u .slopes)
 
 pub a-value-added : Demand3 (answering (leaving one-more-value)) → ⊥
 a-value-added d = absurd (omega (arith, to-be one-more-value d [] lowering four is-lowered .as-many-values))
 
 abbrev pub one-more-slope : List Change → Change → (before ours : Table) → Table
-one-more-slope made c t u = table (u .knots) (u .values) (one-more (u .slopes))
+one-more-slope made c t u = table (u .s) (u .knots) (u .values) (one-more (u .slopes))
 
 pub a-slope-added : Demand3 (answering (leaving one-more-slope)) → ⊥
 a-slope-added d = absurd (omega (arith, to-be one-more-slope d [] lowering four is-lowered .as-many-slopes))
@@ -157,7 +158,7 @@ a-slope-added d = absurd (omega (arith, to-be one-more-slope d [] lowering four 
 
 -- a change that renews the slopes at the point and beside it alone, as it was right until request 2: of point 2 it leaves slope 0, and of point 1, the third of four from the end, the last
 abbrev pub these-three-alone : List Change → Change → (before ours : Table) → Table
-these-three-alone made c t u = table (u .knots) (u .values) (put (entry (u .slopes)) (c .point - 1) (min (c .point + 2) (length (t .slopes)) - (c .point - 1)) (t .slopes))
+these-three-alone made c t u = table (u .s) (u .knots) (u .values) (put (entry (u .slopes)) (c .point - 1) (min (c .point + 2) (length (t .slopes)) - (c .point - 1)) (t .slopes))
 
 pub slope-0-left-by-a-change-of-point-2 : Demand3 (answering (leaving these-three-alone)) → ⊥
 slope-0-left-by-a-change-of-point-2 d = to-be these-three-alone d [] sinking four is-sunk .renewed-slopes 0 (lit< tt) (slope-0 refl refl) .first refl (lit< tt) .otherwise (ltZ-yes tt) (λ l. absurd (l .lt)) .size .high .lt
@@ -180,7 +181,7 @@ pub slopes-at-the-ends-that-are-not-those-built-afresh : Demand3 (answering (lea
 slopes-at-the-ends-that-are-not-those-built-afresh d =
     let left = these-three-alone [] sinking four sunk in
     numbers-differ tt (ap (λ (slopes : List ℤ). entry slopes 0) (d .the-slopes-equal-those-built-afresh {t = four} {o = outcome 0 0 tt (four .slopes)} {changes = sinking ∷ []} {u = left} {again = four .slopes} {p = outcome 0 0 tt (sunk .slopes)}
-    (four-built (four .slopes) refl) refl (next {o = outcome 0 0 tt left} (sunk, (is-sunk, refl)) none) refl (has-slopes (points-by-test _ _ refl (count tt tt) tt) refl refl) .1))
+    (four-built (four .slopes) refl) refl (next {o = outcome 0 0 tt left} (sunk, (is-sunk, refl)) none) refl (has-slopes eighth (points-by-test _ _ refl (count tt tt) tt) refl refl) .1))
 
 -- the same from the second change on: the first, of point 1 onto point 2, is refused
 abbrev pub from-the-second-on : List Change → Change → (before ours : Table) → Table

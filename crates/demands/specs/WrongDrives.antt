@@ -13,7 +13,6 @@ use lib.Pow.{pow-pos}
 use lib.Signed.{ltZ-yes}
 use lib.Ieee.{Float, nan, inf, fin, Format, binary64, down}
 use lib.Ieee.Exact.{HasValue}
-use Rattle.cubic.specs.Piece.{unit}
 use Rattle.cubic.specs.Value.{numerator, denominator}
 use Rattle.floats.specs.Promise.{negative, Exactly}
 use Rattle.floats.specs.Exactly.{plus-zero}
@@ -65,21 +64,21 @@ on-its-piece {t} {x} {a} d b =
     let v = answer-right refl (d .answer) in
     subst (λ (i : ℕ). ToldOn t i x a) (one-piece (accepted-for refl (d .refusal) .limits) (v .belongs) b) (v .is)
 
-module _ {left h z m n t : ℤ} where
-  no-rise : {x : Float} → ToldIn left h z m n t (dwell x) → z ≡ pos 0
+module _ {U left h z m n t : ℤ} where
+  no-rise : {x : Float} → ToldIn U left h z m n t (dwell x) → z ≡ pos 0
   no-rise (drive.dwells e x) = e
 
   module _ {x y w : Float} where
-    some-rise : ToldIn left h z m n t (move x y w) → z ≡ pos 0 → ⊥
+    some-rise : ToldIn U left h z m n t (move x y w) → z ≡ pos 0 → ⊥
     some-rise (drive.moves f a b c) = f
 
-    on-the-left : ToldIn left h z m n t (move x y w) → Exactly binary64 left x
+    on-the-left : ToldIn U left h z m n t (move x y w) → Exactly binary64 left x
     on-the-left (drive.moves f a b c) = a
 
-    above-the-line : ToldIn left h z m n t (move x y w) → Exactly binary64 (numerator unit h z m n t) y
+    above-the-line : ToldIn U left h z m n t (move x y w) → Exactly binary64 (numerator U h z m n t) y
     above-the-line (drive.moves f a b c) = b
 
-    below-the-line : ToldIn left h z m n t (move x y w) → Exactly binary64 (denominator unit h) w
+    below-the-line : ToldIn U left h z m n t (move x y w) → Exactly binary64 (denominator U h) w
     below-the-line (drive.moves f a b c) = c
 
 -- ---- another limit
@@ -88,18 +87,18 @@ not-too-large : {t : Table} {x : ℤ} {i : ℕ} → (TooLarge (step (t .knots) i
 not-too-large f (of-position (of-table h)) = elim h [ ]
 not-too-large f (too-large b l) = f l
 
-pub a-limit-too-low : (a : Answer) → Drives (table (pos 0 ∷ pos 1024 ∷ []) (pos 0 ∷ pos 1024 ∷ []) (pos 256 ∷ pos 256 ∷ [])) (pos 0) 8 0 a → ⊥
+pub a-limit-too-low : (a : Answer) → Drives (table 8 (pos 0 ∷ pos 1024 ∷ []) (pos 0 ∷ pos 1024 ∷ []) (pos 256 ∷ pos 256 ∷ [])) (pos 0) 8 0 a → ⊥
 a-limit-too-low a p = not-too-large (λ l. l .above .lt) (so-it-holds (p .refusal))
 
 -- 2^40 + 41564, the first size above 2^40 that any piece has
-pub a-limit-too-high : (a : Answer) → Drives (table (pos 0 ∷ pos 189 ∷ []) (pos 0 ∷ pos 162860 ∷ []) (pos 0 ∷ pos 0 ∷ [])) (pos 0) 0 0 a → ⊥
+pub a-limit-too-high : (a : Answer) → Drives (table 8 (pos 0 ∷ pos 189 ∷ []) (pos 0 ∷ pos 162860 ∷ []) (pos 0 ∷ pos 0 ∷ [])) (pos 0) 0 0 a → ⊥
 a-limit-too-high a p = overlooked (p .refusal) 8 0 (too-large (in-piece 0 tt tt tt) (record { above = ltZ-yes tt })) tt
 
-pub falls-never-too-large : (a : Answer) → Drives (table (pos 0 ∷ pos 1024 ∷ []) (pos 0 ∷ negsuc 1024 ∷ []) (pos 0 ∷ pos 0 ∷ [])) (pos 0) 0 0 a → ⊥
+pub falls-never-too-large : (a : Answer) → Drives (table 8 (pos 0 ∷ pos 1024 ∷ []) (pos 0 ∷ negsuc 1024 ∷ []) (pos 0 ∷ pos 0 ∷ [])) (pos 0) 0 0 a → ⊥
 falls-never-too-large a p = overlooked (p .refusal) 8 0 (too-large (in-piece 0 tt tt tt) (record { above = ltZ-yes tt })) tt
 
 abbrev large : Table
-large = table (pos 0 ∷ pos 1024 ∷ []) (pos 0 ∷ pos 1025 ∷ []) (pos 256 ∷ pos 256 ∷ [])
+large = table 8 (pos 0 ∷ pos 1024 ∷ []) (pos 0 ∷ pos 1025 ∷ []) (pos 256 ∷ pos 256 ∷ [])
 
 -- |z|·h² held to the limit, and not |z|·h³
 pub the-width-squared : (a : Answer) → Drives large (pos 0) 0 0 a → ⊥
@@ -112,20 +111,20 @@ pub too-large-refused-by-6 : (a : Answer) → Drives large (pos 0) 6 0 a → ⊥
 too-large-refused-by-6 a p = outside-only (within tt tt) (so-it-holds (p .refusal))
 
 -- the second piece is too large, and the position at its left knot
-pub too-large-refused-at-place-0 : (a : Answer) → Drives (table (pos 0 ∷ pos 1 ∷ pos 1025 ∷ []) (pos 0 ∷ pos 0 ∷ pos 1025 ∷ []) (pos 0 ∷ pos 0 ∷ pos 0 ∷ [])) (pos 1) 8 0 a → ⊥
+pub too-large-refused-at-place-0 : (a : Answer) → Drives (table 8 (pos 0 ∷ pos 1 ∷ pos 1025 ∷ []) (pos 0 ∷ pos 0 ∷ pos 1025 ∷ []) (pos 0 ∷ pos 0 ∷ pos 0 ∷ [])) (pos 1) 8 0 a → ⊥
 too-large-refused-at-place-0 a p = not-too-large (λ l. l .above .lt) (so-it-holds (p .refusal))
 
 -- ---- another move
 
 abbrev fall : Table
-fall = table (pos 0 ∷ pos 3 ∷ []) (pos 0 ∷ negsuc 9 ∷ []) (negsuc 852 ∷ negsuc 852 ∷ [])
+fall = table 8 (pos 0 ∷ pos 3 ∷ []) (pos 0 ∷ negsuc 9 ∷ []) (negsuc 852 ∷ negsuc 852 ∷ [])
 
 abbrev line : Table
-line = table (pos 0 ∷ pos 2 ∷ []) (pos 0 ∷ pos 2 ∷ []) (pos 256 ∷ pos 256 ∷ [])
+line = table 8 (pos 0 ∷ pos 2 ∷ []) (pos 0 ∷ pos 2 ∷ []) (pos 256 ∷ pos 256 ∷ [])
 
 module _ {left above below : Float} where
   -- t for h in Horner's second step: 2048, and not 14336
-  pub another-step : Exactly binary64 (pos 2048) above → Drives (table (pos 0 ∷ pos 3 ∷ []) (pos 0 ∷ pos 8 ∷ []) (pos 0 ∷ pos 0 ∷ [])) (pos 1) 0 0 (moving left above below) → ⊥
+  pub another-step : Exactly binary64 (pos 2048) above → Drives (table 8 (pos 0 ∷ pos 3 ∷ []) (pos 0 ∷ pos 8 ∷ []) (pos 0 ∷ pos 0 ∷ [])) (pos 1) 0 0 (moving left above below) → ⊥
   another-step e p = numbers-differ tt (one-number e (above-the-line (on-its-piece p (in-piece 0 tt tt tt))))
 
   -- t for one h in the third: −7684, and not −23038
@@ -144,7 +143,7 @@ module _ {left above below : Float} where
   a-move-at-another-position e p = numbers-differ tt (one-number e (above-the-line (on-its-piece p (in-piece 0 tt tt tt))))
 
   -- the left slope on the left: 256, and not 5
-  pub a-move-from-another-value : Exactly binary64 (pos 256) left → Drives (table (pos 0 ∷ pos 1 ∷ []) (pos 5 ∷ pos 6 ∷ []) (pos 256 ∷ pos 256 ∷ [])) (pos 0) 0 0 (moving left above below) → ⊥
+  pub a-move-from-another-value : Exactly binary64 (pos 256) left → Drives (table 8 (pos 0 ∷ pos 1 ∷ []) (pos 5 ∷ pos 6 ∷ []) (pos 256 ∷ pos 256 ∷ [])) (pos 0) 0 0 (moving left above below) → ⊥
   a-move-from-another-value e p = numbers-differ tt (one-number e (on-the-left (on-its-piece p (in-piece 0 tt tt tt))))
 
   -- 256·3·h² below: 3072, and not 2048
@@ -157,10 +156,10 @@ minus-zero-let-through p = minus-zero-is-no-zero (above-the-line (on-its-piece p
 -- ---- a move for a dwell, a dwell for a move
 
 abbrev flat : Table
-flat = table (pos 0 ∷ pos 1 ∷ []) (pos 5 ∷ pos 5 ∷ []) (pos 0 ∷ pos 0 ∷ [])
+flat = table 8 (pos 0 ∷ pos 1 ∷ []) (pos 5 ∷ pos 5 ∷ []) (pos 0 ∷ pos 0 ∷ [])
 
 abbrev rise : Table
-rise = table (pos 0 ∷ pos 1 ∷ []) (pos 0 ∷ pos 1 ∷ []) (pos 256 ∷ pos 256 ∷ [])
+rise = table 8 (pos 0 ∷ pos 1 ∷ []) (pos 0 ∷ pos 1 ∷ []) (pos 256 ∷ pos 256 ∷ [])
 
 flat-moves : {left above below : Float} → Driving flat (pos 0) 0 0 (move left above below) → ⊥
 flat-moves d = some-rise (on-its-piece d (in-piece 0 tt tt tt)) refl
@@ -177,7 +176,7 @@ a-dwell-on-a-rise p = rise-dwells p
 -- ---- a refusal that is no dwell at +0: of one point alone
 
 abbrev alone : Table
-alone = table (pos 5 ∷ []) (pos 5 ∷ []) (pos 5 ∷ [])
+alone = table 8 (pos 5 ∷ []) (pos 5 ∷ []) (pos 5 ∷ [])
 
 abbrev is-move : Telling → Bool
 is-move (dwell level) = false
@@ -216,7 +215,7 @@ module _ {left above below : Float} where
   a-dwell-over-0 e (dwells d nought one) = numbers-differ tt (one-number e one)
 
   -- 0 on the left, and not 5
-  pub the-numerator-for-the-left-value : Exactly binary64 (pos 0) left → DrivesC (table (pos 0 ∷ pos 1 ∷ []) (pos 5 ∷ pos 6 ∷ []) (pos 256 ∷ pos 256 ∷ [])) (pos 0) 0 0 1 left above below → ⊥
+  pub the-numerator-for-the-left-value : Exactly binary64 (pos 0) left → DrivesC (table 8 (pos 0 ∷ pos 1 ∷ []) (pos 5 ∷ pos 6 ∷ []) (pos 256 ∷ pos 256 ∷ [])) (pos 0) 0 0 1 left above below → ⊥
   the-numerator-for-the-left-value e (moves d) = numbers-differ tt (one-number e (on-the-left (on-its-piece d (in-piece 0 tt tt tt))))
 
 pub a-dwell-with-minus-zero-above : {left below : Float} → DrivesC flat (pos 0) 0 0 0 left −0 below → ⊥

@@ -8,9 +8,10 @@ use lib.Dec.{T, lit≤}
 use lib.IntN.{ℤ, pos, negsuc}
 use lib.Signed.{ltZ-yes}
 use Rattle.integers.specs.Decided.{told, denied}
-use Rattle.cubic.specs.Piece.{unit, Monotone}
+use Rattle.cubic.specs.Piece.{Monotone}
 use Rattle.cubic.specs.Monotone.{monotone-level}
-use Rattle.rules.specs.Limits.{WidthWithin, RiseWithin}
+use Rattle.rules.specs.Limits.{unit, UnitWithin, WidthWithin, RiseWithin}
+use Rattle.rules.specs.Known.{unit-size}
 use Rattle.piece.specs.declared.Verdict.{Verdict}
 use Rattle.piece.specs.declared.Verdict.the-variants.{Rising, Falling, Flat, Bends, Refused}
 use Rattle.piece.specs.Promise.{rising, falling, flat, bends, none, Ruling, ruling, rulingOf, leaning, width-refused, monotone, bent}
@@ -20,17 +21,18 @@ use Rattle.exports.specs.Cases.{JudgedAs, judged}
 use Rattle.exports.specs.Determined.{one-judgement}
 use Rattle.demands.specs.Met.{numberOf}
 use Rattle.demands.specs.Contracts.{Judges, JudgesC, AskedMonotone, SaysMonotone, AskedCoefficients, HasCoefficients}
+use Rattle.demands.specs.SixteenGiven.{eighth}
 use Rattle.demands.specs.Refuting.{within, against-its-rise, below-the-line, in-the-ellipse, apart, numbers-differ}
 
 -- ---- a wrong test
 
 -- The piece does not bend: `judge` may not answer so, nor may `is_monotone` say no where what it requires is met.
-abbrev pub DoesNotBend : (h z m n : ℤ) → Type 0
-DoesNotBend h z m n = (Judges h z m n Bends → ⊥) × (AskedMonotone h z m n × (SaysMonotone h z m n false → ⊥))
+abbrev pub DoesNotBend : (s : ℕ) (h z m n : ℤ) → Type 0
+DoesNotBend s h z m n = (Judges s h z m n Bends → ⊥) × (AskedMonotone (unit s) h z m n × (SaysMonotone (unit s) h z m n false → ⊥))
 
 -- It bends: `judge` may not answer this verdict, nor may `is_monotone` say yes.
-abbrev pub IsNot : Verdict → (h z m n : ℤ) → Type 0
-IsNot verdict h z m n = (Judges h z m n verdict → ⊥) × (AskedMonotone h z m n × (SaysMonotone h z m n true → ⊥))
+abbrev pub IsNot : Verdict → (s : ℕ) (h z m n : ℤ) → Type 0
+IsNot verdict s h z m n = (Judges s h z m n verdict → ⊥) × (AskedMonotone (unit s) h z m n × (SaysMonotone (unit s) h z m n true → ⊥))
 
 abbrev bending : Ruling → Bool
 bending (ruling number place rising) = false
@@ -39,61 +41,61 @@ bending (ruling number place flat) = false
 bending (ruling number place bends) = true
 bending (ruling number place none) = false
 
-module _ {h z m n : ℤ} (w : WidthWithin h) (r : RiseWithin z) where
-  straight : T (not (bending (ruling 0 0 (leaning z)))) → Monotone unit h z m n → DoesNotBend h z m n
-  straight t o = (λ p. apart bending (one-ruling p (monotone w r o)) tt t, ((w, r), λ d. denied d refl o))
+module _ {s : ℕ} {h z m n : ℤ} (u : UnitWithin s) (w : WidthWithin h) (r : RiseWithin z) where
+  straight : T (not (bending (ruling 0 0 (leaning z)))) → Monotone (unit s) h z m n → DoesNotBend s h z m n
+  straight t o = (λ p. apart bending (one-ruling p (monotone u w r o)) tt t, ((unit-size u, (w, r)), λ d. denied d refl o))
 
-  crooked : (verdict : Verdict) → T (not (bending (rulingOf verdict))) → (Monotone unit h z m n → ⊥) → IsNot verdict h z m n
-  crooked verdict t f = (λ p. apart bending (one-ruling (bent w r f) p) tt t, ((w, r), λ d. f (told d refl)))
+  crooked : (verdict : Verdict) → T (not (bending (rulingOf verdict))) → (Monotone (unit s) h z m n → ⊥) → IsNot verdict s h z m n
+  crooked verdict t f = (λ p. apart bending (one-ruling (bent u w r f) p) tt t, ((unit-size u, (w, r)), λ d. f (told d refl)))
 
 -- the line at 2Z for 3Z
-pub a-line-too-low : DoesNotBend (pos 1) (pos 1) (pos 600) (pos 0)
-a-line-too-low = straight (within tt tt) (within tt tt) tt (below-the-line tt tt tt tt)
+pub a-line-too-low : DoesNotBend 8 (pos 1) (pos 1) (pos 600) (pos 0)
+a-line-too-low = straight eighth (within tt tt) (within tt tt) tt (below-the-line tt tt tt tt)
 
 -- a·a for a·b in the ellipse; at 395/609 of the width the piece falls
-pub another-ellipse : IsNot Rising (pos 1) (pos 1) (pos 1024) (pos 300)
-another-ellipse = crooked (within tt tt) (within tt tt) Rising tt (against-its-rise 395 609 tt tt tt tt)
+pub another-ellipse : IsNot Rising 8 (pos 1) (pos 1) (pos 1024) (pos 300)
+another-ellipse = crooked eighth (within tt tt) (within tt tt) Rising tt (against-its-rise 395 609 tt tt tt tt)
 
 -- only what lies below the line is taken
-pub no-ellipse : DoesNotBend (pos 1) (pos 1) (pos 600) (pos 600)
-no-ellipse = straight (within tt tt) (within tt tt) tt (in-the-ellipse tt tt tt tt tt)
+pub no-ellipse : DoesNotBend 8 (pos 1) (pos 1) (pos 600) (pos 600)
+no-ellipse = straight eighth (within tt tt) (within tt tt) tt (in-the-ellipse tt tt tt tt tt)
 
 -- a slope above 3Z is turned away, and not one above 4Z
-pub turned-away-too-soon : DoesNotBend (pos 1) (pos 1) (pos 1024) (pos 256)
-turned-away-too-soon = straight (within tt tt) (within tt tt) tt (in-the-ellipse tt tt tt tt tt)
+pub turned-away-too-soon : DoesNotBend 8 (pos 1) (pos 1) (pos 1024) (pos 256)
+turned-away-too-soon = straight eighth (within tt tt) (within tt tt) tt (in-the-ellipse tt tt tt tt tt)
 
 -- a slope above 2000Z is turned away, and not one above 4Z, so that the square is too large for 64 bits: what is left of it there is negative
-pub squares-that-wrap : IsNot Rising (pos 1024) (pos 1048576) (pos 401000003) (pos 0)
-squares-that-wrap = crooked (within tt tt) (within tt tt) Rising tt (against-its-rise 2 3 tt tt tt tt)
+pub squares-that-wrap : IsNot Rising 8 (pos 1024) (pos 1048576) (pos 401000003) (pos 0)
+squares-that-wrap = crooked eighth (within tt tt) (within tt tt) Rising tt (against-its-rise 2 3 tt tt tt tt)
 
 -- a fall, or a piece without a rise, is judged by its left slope alone
-pub a-fall-by-its-left-slope : IsNot Falling (pos 1) (negsuc 0) (negsuc 255) (negsuc 1999)
-a-fall-by-its-left-slope = crooked (within tt tt) (within tt tt) Falling tt (λ o. o .falling (ltZ-yes tt) .at 1 3 (lit≤ tt) (lit≤ tt) .le)
+pub a-fall-by-its-left-slope : IsNot Falling 8 (pos 1) (negsuc 0) (negsuc 255) (negsuc 1999)
+a-fall-by-its-left-slope = crooked eighth (within tt tt) (within tt tt) Falling tt (λ o. o .falling (ltZ-yes tt) .at 1 3 (lit≤ tt) (lit≤ tt) .le)
 
-pub a-level-piece-by-its-left-slope : IsNot Flat (pos 1) (pos 0) (pos 0) (pos 5)
-a-level-piece-by-its-left-slope = crooked (within tt tt) (within tt tt) Flat tt (λ o. numbers-differ tt (o .level refl .1))
+pub a-level-piece-by-its-left-slope : IsNot Flat 8 (pos 1) (pos 0) (pos 0) (pos 5)
+a-level-piece-by-its-left-slope = crooked eighth (within tt tt) (within tt tt) Flat tt (λ o. numbers-differ tt (o .level refl .1))
 
 -- the rise in units of 1/255, so that 768 at both ends, which is three times 256, lies outside the ellipse
-pub a-unit-of-255 : DoesNotBend (pos 1) (pos 1) (pos 768) (pos 768)
-a-unit-of-255 = straight (within tt tt) (within tt tt) tt (in-the-ellipse tt tt tt tt tt)
+pub a-unit-of-255 : DoesNotBend 8 (pos 1) (pos 1) (pos 768) (pos 768)
+a-unit-of-255 = straight eighth (within tt tt) (within tt tt) tt (in-the-ellipse tt tt tt tt tt)
 
 -- ---- a wrong number
 
-pub a-width-refused-by-4 : Judges (pos 0) (pos 1) (pos 256) (pos 256) (Refused (record { number = 4; place = 0 })) → ⊥
-a-width-refused-by-4 p = omega (arith, ap numberOf (one-ruling p (width-refused (λ w. w .low .le))))
+pub a-width-refused-by-4 : Judges 8 (pos 0) (pos 1) (pos 256) (pos 256) (Refused (record { number = 4; place = 0 })) → ⊥
+a-width-refused-by-4 p = omega (arith, ap numberOf (one-ruling p (width-refused eighth (λ w. w .low .le))))
 
 -- ---- a wrong cubic: the one of a piece of width 2 and rise 2 with slopes 256 and 256 is 512·t·h², as 3·512 − 2·512 − 512 and 512 + 512 − 2·512 are 0
 
-abbrev pub HasNot : (h z m n first second third : ℤ) → Type 0
-HasNot h z m n first second third = AskedCoefficients h z m n × (HasCoefficients h z m n first second third → ⊥)
+abbrev pub HasNot : (U h z m n first second third : ℤ) → Type 0
+HasNot U h z m n first second third = AskedCoefficients U h z m n × (HasCoefficients U h z m n first second third → ⊥)
 
 -- 2Z for 3Z
-pub another-square : HasNot (pos 2) (pos 2) (pos 256) (pos 256) (pos 512) (negsuc 511) (pos 0)
-another-square = ((within tt tt, within tt tt), λ c. numbers-differ tt (c .second-is))
+pub another-square : HasNot (pos 256) (pos 2) (pos 2) (pos 256) (pos 256) (pos 512) (negsuc 511) (pos 0)
+another-square = ((within tt tt, (within tt tt, within tt tt)), λ c. numbers-differ tt (c .second-is))
 
 -- 3Z for 2Z
-pub another-cube : HasNot (pos 2) (pos 2) (pos 256) (pos 256) (pos 512) (pos 0) (negsuc 511)
-another-cube = ((within tt tt, within tt tt), λ c. numbers-differ tt (c .third-is))
+pub another-cube : HasNot (pos 256) (pos 2) (pos 2) (pos 256) (pos 256) (pos 512) (pos 0) (negsuc 511)
+another-cube = ((within tt tt, (within tt tt, within tt tt)), λ c. numbers-differ tt (c .third-is))
 
 -- ---- a wrong record for C
 
@@ -103,21 +105,21 @@ verdict j = j .verdict
 abbrev number : Judgement → ℕ
 number j = j .refusal .number
 
-a-rise : JudgedAs (pos 1) (pos 1) (pos 256) (pos 256) 0 0 1
-a-rise = judged (monotone (within tt tt) (within tt tt) (below-the-line tt tt tt tt))
+a-rise : JudgedAs 8 (pos 1) (pos 1) (pos 256) (pos 256) 0 0 1
+a-rise = judged (monotone eighth (within tt tt) (within tt tt) (below-the-line tt tt tt tt))
 
-a-flat-piece : JudgedAs (pos 1) (pos 0) (pos 0) (pos 0) 0 0 3
-a-flat-piece = judged (monotone (within tt tt) (within tt tt) (monotone-level refl refl refl))
+a-flat-piece : JudgedAs 8 (pos 1) (pos 0) (pos 0) (pos 0) 0 0 3
+a-flat-piece = judged (monotone eighth (within tt tt) (within tt tt) (monotone-level refl refl refl))
 
-pub rising-as-falling : JudgesC (pos 1) (pos 1) (pos 256) (pos 256) 0 0 2 → ⊥
+pub rising-as-falling : JudgesC 8 (pos 1) (pos 1) (pos 256) (pos 256) 0 0 2 → ⊥
 rising-as-falling p = omega (arith, ap verdict (one-judgement p a-rise))
 
-pub flat-as-falling : JudgesC (pos 1) (pos 0) (pos 0) (pos 0) 0 0 2 → ⊥
+pub flat-as-falling : JudgesC 8 (pos 1) (pos 0) (pos 0) (pos 0) 0 0 2 → ⊥
 flat-as-falling p = omega (arith, ap verdict (one-judgement p a-flat-piece))
 
 -- a refused piece that bends, and a rise that is refused
-pub a-verdict-where-refused : JudgesC (pos 0) (pos 1) (pos 0) (pos 0) 3 0 4 → ⊥
-a-verdict-where-refused p = omega (arith, ap verdict (one-judgement p (judged (width-refused (λ w. w .low .le)))))
+pub a-verdict-where-refused : JudgesC 8 (pos 0) (pos 1) (pos 0) (pos 0) 3 0 4 → ⊥
+a-verdict-where-refused p = omega (arith, ap verdict (one-judgement p (judged (width-refused eighth (λ w. w .low .le)))))
 
-pub a-refusal-with-a-verdict : JudgesC (pos 1) (pos 1) (pos 256) (pos 256) 5 0 1 → ⊥
+pub a-refusal-with-a-verdict : JudgesC 8 (pos 1) (pos 1) (pos 256) (pos 256) 5 0 1 → ⊥
 a-refusal-with-a-verdict p = omega (arith, ap number (one-judgement p a-rise))

@@ -7,7 +7,8 @@ use native.Mathlib.Omega.{arith}
 use lib.Dec.{lit<, lit≤}
 use lib.IntN.{ℤ, pos, negsuc}
 use lib.ListN.{length}
-use Rattle.cubic.specs.Piece.{unit, Monotone}
+use Rattle.cubic.specs.Piece.{Monotone}
+use Rattle.rules.specs.Limits.{unit}
 use Rattle.rules.specs.Order.{one-given, answer-right}
 use Rattle.table.specs.declared.changed.Change.{Change}
 use Rattle.table.specs.Table.{Table, table, lengths-differ, not-monotone}
@@ -24,7 +25,7 @@ use Rattle.position.specs.Pieces.{one-piece}
 use Rattle.position.specs.Spot.{sought-outside, sought-on}
 use Rattle.position.specs.Refused.{accepted-at}
 use Rattle.curve.specs.Curve.{valueOn, Evaluated}
-use Rattle.demands.specs.SixteenGiven.{count, has-slopes}
+use Rattle.demands.specs.SixteenGiven.{eighth, count, has-slopes}
 use Rattle.demands.specs.Contracts.{PointsAnswer, PointsAnswerC, Checks, ChecksC, Builds, BuildsC, AskedRenewal, RenewsTo, ChangedPoints, ChangedPointsC, Changes, ChangesC, AskedStep, Steps, Locates, LocatesC, AskedSeek, Seeks, Evaluates, EvaluatesC}
 use Rattle.demands.specs.Refuting.{within, overlooked, so-it-holds, too-narrow, too-high, against-its-rise, below-the-line, in-piece, no-bad-width, no-bad-rise, no-bend, no-bad-width-then, the-point-is-there, no-bend-there, not-outside, answers-nothing, numbers-differ, lists-differ}
 
@@ -58,64 +59,64 @@ abbrev 0-0-0-0 : List ℤ
 -- ---- `points`: the three lists' lengths, the number of points, the widths and the rises
 
 -- two points at one knot, so that the last piece, which is the only one, has the width 0
-pub the-last-piece-passed-over : PointsAnswer (table 0-0 0-0 0-0) 0 0 → ⊥
+pub the-last-piece-passed-over : PointsAnswer (table 8 0-0 0-0 0-0) 0 0 → ⊥
 the-last-piece-passed-over p = overlooked p 3 0 (too-narrow tt tt) tt
 
 -- a rise that is too large, and behind it two points at one knot
-pub the-piece-behind-a-fault-passed-over : PointsAnswer (table (pos 0 ∷ pos 1 ∷ pos 1 ∷ []) (pos 0 ∷ pos 1048577 ∷ pos 1048577 ∷ []) 0-0-0) 4 0 → ⊥
+pub the-piece-behind-a-fault-passed-over : PointsAnswer (table 8 (pos 0 ∷ pos 1 ∷ pos 1 ∷ []) (pos 0 ∷ pos 1048577 ∷ pos 1048577 ∷ []) 0-0-0) 4 0 → ⊥
 the-piece-behind-a-fault-passed-over p = overlooked p 3 1 (too-narrow tt tt) tt
 
-pub rises-asked-of-the-knots : PointsAnswer (table 0-1 (pos 0 ∷ pos 1048577 ∷ []) 0-0) 0 0 → ⊥
+pub rises-asked-of-the-knots : PointsAnswer (table 8 0-1 (pos 0 ∷ pos 1048577 ∷ []) 0-0) 0 0 → ⊥
 rises-asked-of-the-knots p = overlooked p 4 0 (too-high tt tt) tt
 
-pub a-width-refused-by-4 : PointsAnswer (table 0-0 0-0 0-0) 4 0 → ⊥
+pub a-width-refused-by-4 : PointsAnswer (table 8 0-0 0-0 0-0) 4 0 → ⊥
 a-width-refused-by-4 p = no-bad-rise (within tt tt) (so-it-holds p)
 
-pub a-rise-refused-by-3 : PointsAnswer (table 0-1 (pos 0 ∷ pos 1048577 ∷ []) 0-0) 3 0 → ⊥
+pub a-rise-refused-by-3 : PointsAnswer (table 8 0-1 (pos 0 ∷ pos 1048577 ∷ []) 0-0) 3 0 → ⊥
 a-rise-refused-by-3 p = no-bad-width (within tt tt) (so-it-holds p)
 
-pub a-count-refused-by-1 : PointsAnswer (table [] [] []) 1 0 → ⊥
+pub a-count-refused-by-1 : PointsAnswer (table 8 [] [] []) 1 0 → ⊥
 a-count-refused-by-1 p = same-length-passes (record { values = refl; slopes = refl }) 0 (so-it-holds p)
 
-pub longer-slopes-taken : PointsAnswer (table 0-1 0-1 0-0-0) 0 0 → ⊥
+pub longer-slopes-taken : PointsAnswer (table 8 0-1 0-1 0-0-0) 0 0 → ⊥
 longer-slopes-taken p = overlooked p 1 0 (lengths-differ (λ s. omega (arith, s .slopes))) tt
 
-pub longer-values-taken : PointsAnswer (table 0-1 0-1-2 0-0) 0 0 → ⊥
+pub longer-values-taken : PointsAnswer (table 8 0-1 0-1-2 0-0) 0 0 → ⊥
 longer-values-taken p = overlooked p 1 0 (lengths-differ (λ s. omega (arith, s .values))) tt
 
-pub good-points-refused : PointsAnswer (table 0-1 0-1 0-0) 2 0 → ⊥
+pub good-points-refused : PointsAnswer (table 8 0-1 0-1 0-0) 2 0 → ⊥
 good-points-refused p = count-passes (count tt tt) 0 (so-it-holds p)
 
 -- in C: the slopes asked about as well, which a build would make good
-pub points-by-a-check : PointsAnswerC (table 0-1 0-1 (pos 1025 ∷ pos 256 ∷ [])) 5 0 → ⊥
-points-by-a-check p = omega (arith, one-given p (points-accepted (points-by-test 0-1 0-1 refl (count tt tt) tt) refl) .0)
+pub points-by-a-check : PointsAnswerC (table 8 0-1 0-1 (pos 1025 ∷ pos 256 ∷ [])) 5 0 → ⊥
+points-by-a-check p = omega (arith, one-given p (points-accepted eighth (points-by-test 0-1 0-1 refl (count tt tt) tt) refl) .0)
 
 -- ---- `check`: the slopes too
 
-pub the-last-bend-passed-over : Checks (table 0-1-2 0-1-2 (pos 256 ∷ pos 256 ∷ pos 1025 ∷ [])) 0 0 → ⊥
+pub the-last-bend-passed-over : Checks (table 8 0-1-2 0-1-2 (pos 256 ∷ pos 256 ∷ pos 1025 ∷ [])) 0 0 → ⊥
 the-last-bend-passed-over p = overlooked p 5 1 (not-monotone (lit< tt) (against-its-rise 1 3 tt tt tt tt)) tt
 
-pub a-piece-by-its-left-slope : Checks (table 0-1 0-1 (pos 256 ∷ pos 2000 ∷ [])) 0 0 → ⊥
+pub a-piece-by-its-left-slope : Checks (table 8 0-1 0-1 (pos 256 ∷ pos 2000 ∷ [])) 0 0 → ⊥
 a-piece-by-its-left-slope p = overlooked p 5 0 (not-monotone (lit< tt) (against-its-rise 1 3 tt tt tt tt)) tt
 
-pub a-piece-by-the-slopes-of-the-first : Checks (table 0-1-2 0-1-2 (pos 256 ∷ pos 256 ∷ pos 2000 ∷ [])) 0 0 → ⊥
+pub a-piece-by-the-slopes-of-the-first : Checks (table 8 0-1-2 0-1-2 (pos 256 ∷ pos 256 ∷ pos 2000 ∷ [])) 0 0 → ⊥
 a-piece-by-the-slopes-of-the-first p = overlooked p 5 1 (not-monotone (lit< tt) (against-its-rise 1 3 tt tt tt tt)) tt
 
-pub a-rise-behind-a-bend-not-asked : Checks (table 0-1-2 (pos 0 ∷ pos 1 ∷ pos 1048578 ∷ []) (pos 1025 ∷ pos 256 ∷ pos 0 ∷ [])) 5 0 → ⊥
+pub a-rise-behind-a-bend-not-asked : Checks (table 8 0-1-2 (pos 0 ∷ pos 1 ∷ pos 1048578 ∷ []) (pos 1025 ∷ pos 256 ∷ pos 0 ∷ [])) 5 0 → ⊥
 a-rise-behind-a-bend-not-asked p = overlooked p 4 1 (too-high tt tt) tt
 
 -- the piece of width 1 and rise 1 with slopes 256 and 256
-a-straight-rise : Monotone unit (pos 1) (pos 1) (pos 256) (pos 256)
+a-straight-rise : Monotone (unit 8) (pos 1) (pos 1) (pos 256) (pos 256)
 a-straight-rise = below-the-line tt tt tt tt
 
-pub every-table-refused-by-5 : Checks (table 0-1 0-1 (pos 256 ∷ pos 256 ∷ [])) 5 0 → ⊥
+pub every-table-refused-by-5 : Checks (table 8 0-1 0-1 (pos 256 ∷ pos 256 ∷ [])) 5 0 → ⊥
 every-table-refused-by-5 p = no-bend a-straight-rise (so-it-holds p)
 
-pub a-bend-refused-by-4 : Checks (table 0-1 0-1 (pos 1025 ∷ pos 256 ∷ [])) 4 0 → ⊥
+pub a-bend-refused-by-4 : Checks (table 8 0-1 0-1 (pos 1025 ∷ pos 256 ∷ [])) 4 0 → ⊥
 a-bend-refused-by-4 p = no-bad-rise (within tt tt) (so-it-holds p)
 
 -- in C: the slopes not asked about
-pub a-check-of-the-points : ChecksC (table 0-1 0-1 (pos 1025 ∷ pos 256 ∷ [])) 0 0 → ⊥
+pub a-check-of-the-points : ChecksC (table 8 0-1 0-1 (pos 1025 ∷ pos 256 ∷ [])) 0 0 → ⊥
 a-check-of-the-points p = overlooked p 5 0 (not-monotone (lit< tt) (against-its-rise 2 3 tt tt tt tt)) tt
 
 -- ---- `changed_points`: the points as they would be after a change
@@ -124,41 +125,41 @@ a-check-of-the-points p = overlooked p 5 0 (not-monotone (lit< tt) (against-its-
 abbrev to : (point : ℕ) (knot value : ℤ) → Change
 to point knot value = record { point = point; knot = knot; value = value }
 
-pub widths-asked-of-the-old-points : ChangedPoints (table 0-1-2-3 0-1-4-7 0-0-0-0) (to 1 (pos 2) (pos 1)) 0 0 → ⊥
+pub widths-asked-of-the-old-points : ChangedPoints (table 8 0-1-2-3 0-1-4-7 0-0-0-0) (to 1 (pos 2) (pos 1)) 0 0 → ⊥
 widths-asked-of-the-old-points p = overlooked p 3 1 (of-points (too-narrow tt tt)) tt
 
-pub rises-asked-of-the-old-points : ChangedPoints (table 0-1-2 0-0-0 0-0-0) (to 1 (pos 1) (pos 1048577)) 0 0 → ⊥
+pub rises-asked-of-the-old-points : ChangedPoints (table 8 0-1-2 0-0-0 0-0-0) (to 1 (pos 1) (pos 1048577)) 0 0 → ⊥
 rises-asked-of-the-old-points p = overlooked p 4 0 (of-points (too-high tt tt)) tt
 
 -- so that each knot is 1, and each value 5
-pub the-new-entry-at-every-place : ChangedPoints (table 0-1-2 0-0-0 0-0-0) (to 1 (pos 1) (pos 5)) 3 0 → ⊥
+pub the-new-entry-at-every-place : ChangedPoints (table 8 0-1-2 0-0-0 0-0-0) (to 1 (pos 1) (pos 5)) 3 0 → ⊥
 the-new-entry-at-every-place p = no-bad-width-then (within tt tt) (so-it-holds p)
 
 -- only as the left end of a piece, so that the last point's is never read
-pub the-new-entry-only-at-the-left : ChangedPoints (table 0-1-2 0-0-0 0-0-0) (to 2 (pos 1) (pos 0)) 0 0 → ⊥
+pub the-new-entry-only-at-the-left : ChangedPoints (table 8 0-1-2 0-0-0 0-0-0) (to 2 (pos 1) (pos 0)) 0 0 → ⊥
 the-new-entry-only-at-the-left p = overlooked p 3 1 (of-points (too-narrow tt tt)) tt
 
-pub the-new-knot-for-the-new-value : ChangedPoints (table 0-1 0-0 0-0) (to 1 (pos 1) (pos 2000000)) 0 0 → ⊥
+pub the-new-knot-for-the-new-value : ChangedPoints (table 8 0-1 0-0 0-0) (to 1 (pos 1) (pos 2000000)) 0 0 → ⊥
 the-new-knot-for-the-new-value p = overlooked p 4 0 (of-points (too-high tt tt)) tt
 
-pub every-change-refused-by-7 : ChangedPoints (table 0-1 0-1 0-0) (to 0 (pos 0) (pos 1)) 7 0 → ⊥
+pub every-change-refused-by-7 : ChangedPoints (table 8 0-1 0-1 0-0) (to 0 (pos 0) (pos 1)) 7 0 → ⊥
 every-change-refused-by-7 p = the-point-is-there (lit< tt) (so-it-holds p)
 
-pub a-point-behind-the-last : ChangedPoints (table 0-1 0-1 0-0) (to 2 (pos 2) (pos 2)) 0 0 → ⊥
+pub a-point-behind-the-last : ChangedPoints (table 8 0-1 0-1 0-0) (to 2 (pos 2) (pos 2)) 0 0 → ⊥
 a-point-behind-the-last p = overlooked p 7 0 (no-such-point (λ l. omega (arith, l))) tt
 
 -- the left piece's rise, and not the right one's width
-pub the-first-faulty-piece-of-a-change-decides : ChangedPoints (table 0-1-2 0-0-0 0-0-0) (to 1 (pos 2) (pos 1048577)) 4 0 → ⊥
+pub the-first-faulty-piece-of-a-change-decides : ChangedPoints (table 8 0-1-2 0-0-0 0-0-0) (to 1 (pos 2) (pos 1048577)) 4 0 → ⊥
 the-first-faulty-piece-of-a-change-decides p = overlooked p 3 1 (of-points (too-narrow tt tt)) tt
 
-pub a-changed-width-refused-by-4 : ChangedPoints (table 0-1-2 0-0-0 0-0-0) (to 1 (pos 2) (pos 0)) 4 1 → ⊥
+pub a-changed-width-refused-by-4 : ChangedPoints (table 8 0-1-2 0-0-0 0-0-0) (to 1 (pos 2) (pos 0)) 4 1 → ⊥
 a-changed-width-refused-by-4 p = overlooked p 3 1 (of-points (too-narrow tt tt)) tt
 
-pub no-point-refused-by-6 : ChangedPoints (table 0-1 0-1 0-0) (to 2 (pos 2) (pos 2)) 6 0 → ⊥
+pub no-point-refused-by-6 : ChangedPoints (table 8 0-1 0-1 0-0) (to 2 (pos 2) (pos 2)) 6 0 → ⊥
 no-point-refused-by-6 p = overlooked p 7 0 (no-such-point (λ l. omega (arith, l))) tt
 
 -- in C: the points asked about as they are
-pub a-change-not-asked : ChangedPointsC (table 0-1 0-1 0-0) (to 7 (pos 0) (pos 5)) 0 0 → ⊥
+pub a-change-not-asked : ChangedPointsC (table 8 0-1 0-1 0-0) (to 7 (pos 0) (pos 5)) 0 0 → ⊥
 a-change-not-asked p = overlooked p 7 0 (no-such-point (λ l. omega (arith, l))) tt
 
 -- ---- `step`: from an entry to the next
@@ -180,90 +181,91 @@ a-step-that-wraps = (lit< tt, λ e. numbers-differ tt e)
 
 -- ---- `build`
 
-pub the-first-slope-left-as-it-was : Builds (table 0-1 0-1 0-0) 0 0 (pos 0 ∷ pos 256 ∷ []) → ⊥
+pub the-first-slope-left-as-it-was : Builds (table 8 0-1 0-1 0-0) 0 0 (pos 0 ∷ pos 256 ∷ []) → ⊥
 the-first-slope-left-as-it-was p = lists-differ tt (p .slopes)
 
-pub the-last-slope-left-as-it-was : Builds (table 0-1 0-1 0-0) 0 0 (pos 256 ∷ pos 0 ∷ []) → ⊥
+pub the-last-slope-left-as-it-was : Builds (table 8 0-1 0-1 0-0) 0 0 (pos 256 ∷ pos 0 ∷ []) → ⊥
 the-last-slope-left-as-it-was p = lists-differ tt (p .slopes)
 
-pub the-last-inner-slope-left-as-it-was : Builds (table 0-1-2-3 0-1-4-7 0-0-0-0) 0 0 (pos 0 ∷ pos 384 ∷ pos 0 ∷ pos 768 ∷ []) → ⊥
+pub the-last-inner-slope-left-as-it-was : Builds (table 8 0-1-2-3 0-1-4-7 0-0-0-0) 0 0 (pos 0 ∷ pos 384 ∷ pos 0 ∷ pos 768 ∷ []) → ⊥
 the-last-inner-slope-left-as-it-was p = lists-differ tt (p .slopes)
 
-pub the-first-slope-everywhere : Builds (table 0-1-2 0-1-4 (pos 1 ∷ pos 1 ∷ pos 1 ∷ [])) 0 0 0-0-0 → ⊥
+pub the-first-slope-everywhere : Builds (table 8 0-1-2 0-1-4 (pos 1 ∷ pos 1 ∷ pos 1 ∷ [])) 0 0 0-0-0 → ⊥
 the-first-slope-everywhere p = lists-differ tt (p .slopes)
 
 -- 1024 at the first point, and not 0
-pub the-second-piece-for-the-first : Builds (table 0-1-2 0-1-4 0-0-0) 0 0 (pos 1024 ∷ pos 384 ∷ pos 1024 ∷ []) → ⊥
+pub the-second-piece-for-the-first : Builds (table 8 0-1-2 0-1-4 0-0-0) 0 0 (pos 1024 ∷ pos 384 ∷ pos 1024 ∷ []) → ⊥
 the-second-piece-for-the-first p = lists-differ tt (p .slopes)
 
 -- with a level piece behind it, where there is none: 0, and not 256
-pub the-last-point-taken-for-an-inner-one : Builds (table 0-1 0-1 (pos 5 ∷ pos 6 ∷ [])) 0 0 (pos 256 ∷ pos 0 ∷ []) → ⊥
+pub the-last-point-taken-for-an-inner-one : Builds (table 8 0-1 0-1 (pos 5 ∷ pos 6 ∷ [])) 0 0 (pos 256 ∷ pos 0 ∷ []) → ⊥
 the-last-point-taken-for-an-inner-one p = lists-differ tt (p .slopes)
 
 -- the first piece for the left one of every inner point
-pub the-left-piece-not-carried-along : Builds (table 0-1-2-3 0-1-4-7 0-0-0-0) 0 0 (pos 0 ∷ pos 384 ∷ pos 384 ∷ pos 768 ∷ []) → ⊥
+pub the-left-piece-not-carried-along : Builds (table 8 0-1-2-3 0-1-4-7 0-0-0-0) 0 0 (pos 0 ∷ pos 384 ∷ pos 384 ∷ pos 768 ∷ []) → ⊥
 the-left-piece-not-carried-along p = lists-differ tt (p .slopes)
 
 -- 256 in the middle, and not 384
-pub a-mean-of-two-units : Builds (table 0-1-2 0-1-4 0-0-0) 0 0 (pos 0 ∷ pos 256 ∷ pos 1024 ∷ []) → ⊥
+pub a-mean-of-two-units : Builds (table 8 0-1-2 0-1-4 0-0-0) 0 0 (pos 0 ∷ pos 256 ∷ pos 1024 ∷ []) → ⊥
 a-mean-of-two-units p = lists-differ tt (p .slopes)
 
 -- 164 in the middle, and not 177
-pub weights-swapped : Builds (table (pos 0 ∷ pos 1 ∷ pos 3 ∷ []) 0-1-2 0-0-0) 0 0 (pos 298 ∷ pos 164 ∷ pos 42 ∷ []) → ⊥
+pub weights-swapped : Builds (table 8 (pos 0 ∷ pos 1 ∷ pos 3 ∷ []) 0-1-2 0-0-0) 0 0 (pos 298 ∷ pos 164 ∷ pos 42 ∷ []) → ⊥
 weights-swapped p = lists-differ tt (p .slopes)
 
 -- −256 in the middle, and not −177
-pub falls-by-one-width : Builds (table (pos 0 ∷ pos 1 ∷ pos 3 ∷ []) (pos 0 ∷ negsuc 0 ∷ negsuc 1 ∷ []) 0-0-0) 0 0 (negsuc 297 ∷ negsuc 255 ∷ negsuc 41 ∷ []) → ⊥
+pub falls-by-one-width : Builds (table 8 (pos 0 ∷ pos 1 ∷ pos 3 ∷ []) (pos 0 ∷ negsuc 0 ∷ negsuc 1 ∷ []) 0-0-0) 0 0 (negsuc 297 ∷ negsuc 255 ∷ negsuc 41 ∷ []) → ⊥
 falls-by-one-width p = lists-differ tt (p .slopes)
 
 -- at the ends, where (0,0), (1,1), (2,4) have 0, 384, 1024: the end piece's own slope
-pub the-secant-at-the-ends : Builds (table 0-1-2 0-1-4 0-0-0) 0 0 (pos 256 ∷ pos 384 ∷ pos 768 ∷ []) → ⊥
+pub the-secant-at-the-ends : Builds (table 8 0-1-2 0-1-4 0-0-0) 0 0 (pos 256 ∷ pos 384 ∷ pos 768 ∷ []) → ⊥
 the-secant-at-the-ends p = lists-differ tt (p .slopes)
 
 -- (0,0), (1,1), (2,−3) have 768, 0, −1664: no bound, and no slope where the rises are opposed
-pub the-bound-not-taken : Builds (table 0-1-2 (pos 0 ∷ pos 1 ∷ negsuc 2 ∷ []) 0-0-0) 0 0 (pos 896 ∷ pos 0 ∷ negsuc 1663 ∷ []) → ⊥
+pub the-bound-not-taken : Builds (table 8 0-1-2 (pos 0 ∷ pos 1 ∷ negsuc 2 ∷ []) 0-0-0) 0 0 (pos 896 ∷ pos 0 ∷ negsuc 1663 ∷ []) → ⊥
 the-bound-not-taken p = lists-differ tt (p .slopes)
 
-pub no-slope-at-an-end-that-turns : Builds (table 0-1-2 (pos 0 ∷ pos 1 ∷ negsuc 2 ∷ []) 0-0-0) 0 0 0-0-0 → ⊥
+pub no-slope-at-an-end-that-turns : Builds (table 8 0-1-2 (pos 0 ∷ pos 1 ∷ negsuc 2 ∷ []) 0-0-0) 0 0 0-0-0 → ⊥
 no-slope-at-an-end-that-turns p = lists-differ tt (p .slopes)
 
 -- (0,0), (3,1), (4,−9) have 256, 0, −3221: three times 85; and (0,0), (2,1), (3,−9) have 384, 0, −3456: once 256
-pub the-bound-of-three-rounded-secants : Builds (table (pos 0 ∷ pos 3 ∷ pos 4 ∷ []) (pos 0 ∷ pos 1 ∷ negsuc 8 ∷ []) 0-0-0) 0 0 (pos 255 ∷ pos 0 ∷ negsuc 3220 ∷ []) → ⊥
+pub the-bound-of-three-rounded-secants : Builds (table 8 (pos 0 ∷ pos 3 ∷ pos 4 ∷ []) (pos 0 ∷ pos 1 ∷ negsuc 8 ∷ []) 0-0-0) 0 0 (pos 255 ∷ pos 0 ∷ negsuc 3220 ∷ []) → ⊥
 the-bound-of-three-rounded-secants p = lists-differ tt (p .slopes)
 
-pub the-bound-rounded-before-the-unit : Builds (table (pos 0 ∷ pos 2 ∷ pos 3 ∷ []) (pos 0 ∷ pos 1 ∷ negsuc 8 ∷ []) 0-0-0) 0 0 (pos 256 ∷ pos 0 ∷ negsuc 3455 ∷ []) → ⊥
+pub the-bound-rounded-before-the-unit : Builds (table 8 (pos 0 ∷ pos 2 ∷ pos 3 ∷ []) (pos 0 ∷ pos 1 ∷ negsuc 8 ∷ []) 0-0-0) 0 0 (pos 256 ∷ pos 0 ∷ negsuc 3455 ∷ []) → ⊥
 the-bound-rounded-before-the-unit p = lists-differ tt (p .slopes)
 
 -- (0,0), (1,−1), (3,−2) have −298, −177, −42: rounded down, and with the widths of the last end swapped
-pub the-ends-rounded-down : Builds (table (pos 0 ∷ pos 1 ∷ pos 3 ∷ []) (pos 0 ∷ negsuc 0 ∷ negsuc 1 ∷ []) 0-0-0) 0 0 (negsuc 298 ∷ negsuc 176 ∷ negsuc 42 ∷ []) → ⊥
+pub the-ends-rounded-down : Builds (table 8 (pos 0 ∷ pos 1 ∷ pos 3 ∷ []) (pos 0 ∷ negsuc 0 ∷ negsuc 1 ∷ []) 0-0-0) 0 0 (negsuc 298 ∷ negsuc 176 ∷ negsuc 42 ∷ []) → ⊥
 the-ends-rounded-down p = lists-differ tt (p .slopes)
 
-pub the-last-end-with-swapped-widths : Builds (table (pos 0 ∷ pos 1 ∷ pos 3 ∷ []) (pos 0 ∷ negsuc 0 ∷ negsuc 1 ∷ []) 0-0-0) 0 0 (negsuc 297 ∷ negsuc 176 ∷ negsuc 297 ∷ []) → ⊥
+pub the-last-end-with-swapped-widths : Builds (table 8 (pos 0 ∷ pos 1 ∷ pos 3 ∷ []) (pos 0 ∷ negsuc 0 ∷ negsuc 1 ∷ []) 0-0-0) 0 0 (negsuc 297 ∷ negsuc 176 ∷ negsuc 297 ∷ []) → ⊥
 the-last-end-with-swapped-widths p = lists-differ tt (p .slopes)
 
 -- in C: knots 0 and 1 with values 5 and 5 refused, as they would be the other way round
-pub values-for-knots : BuildsC (table 0-1 (pos 5 ∷ pos 5 ∷ []) 0-0) 3 0 0-0 → ⊥
+pub values-for-knots : BuildsC (table 8 0-1 (pos 5 ∷ pos 5 ∷ []) 0-0) 3 0 0-0 → ⊥
 values-for-knots p = no-bad-width (within tt tt) (so-it-holds (p .refusal))
 
 -- ---- `renew`: the slopes of a range
 
+-- in the table's unit
 abbrev pub RenewsNot : (t : Table) (from to : ℕ) (after : List ℤ) → Type 0
-RenewsNot t from to after = AskedRenewal t from to × (RenewsTo t from to after → ⊥)
+RenewsNot t from to after = AskedRenewal t (unit (t .s)) from to × (RenewsTo t (unit (t .s)) from to after → ⊥)
 
-pub no-slope-renewed : RenewsNot (table 0-1 0-1 0-0) 0 2 0-0
-no-slope-renewed = ((points-by-test 0-1 0-1 refl (count tt tt) tt, (refl, (lit≤ tt, lit≤ tt))), λ e. lists-differ tt e)
+pub no-slope-renewed : RenewsNot (table 8 0-1 0-1 0-0) 0 2 0-0
+no-slope-renewed = ((within tt tt, (points-by-test 0-1 0-1 refl (count tt tt) tt, (refl, (lit≤ tt, lit≤ tt)))), λ e. lists-differ tt e)
 
-pub the-first-slope-renewed-everywhere : RenewsNot (table 0-1-2 0-1-4 (pos 1 ∷ pos 1 ∷ pos 1 ∷ [])) 0 3 0-0-0
-the-first-slope-renewed-everywhere = ((points-by-test 0-1-2 0-1-4 refl (count tt tt) tt, (refl, (lit≤ tt, lit≤ tt))), λ e. lists-differ tt e)
+pub the-first-slope-renewed-everywhere : RenewsNot (table 8 0-1-2 0-1-4 (pos 1 ∷ pos 1 ∷ pos 1 ∷ [])) 0 3 0-0-0
+the-first-slope-renewed-everywhere = ((within tt tt, (points-by-test 0-1-2 0-1-4 refl (count tt tt) tt, (refl, (lit≤ tt, lit≤ tt)))), λ e. lists-differ tt e)
 
 -- ---- `locate`: a position's piece
 
 -- the tables that a build leaves of the points (0,0), (1,1), (2,4) and of (0,0), (3,−10)
 abbrev rise : Table
-rise = table 0-1-2 0-1-4 (pos 0 ∷ pos 384 ∷ pos 1024 ∷ [])
+rise = table 8 0-1-2 0-1-4 (pos 0 ∷ pos 384 ∷ pos 1024 ∷ [])
 
 abbrev fall : Table
-fall = table (pos 0 ∷ pos 3 ∷ []) (pos 0 ∷ negsuc 9 ∷ []) (negsuc 852 ∷ negsuc 852 ∷ [])
+fall = table 8 (pos 0 ∷ pos 3 ∷ []) (pos 0 ∷ negsuc 9 ∷ []) (negsuc 852 ∷ negsuc 852 ∷ [])
 
 -- where nothing is refused, the piece that is answered is the one that the position belongs to
 its-piece : {t : Table} {x : ℤ} {place i j : ℕ} → Located t x 0 place i → Belongs (t .knots) x j → i ≡ j
@@ -289,7 +291,7 @@ pub every-position-refused : Locates fall (pos 1) 6 0 0 → ⊥
 every-position-refused p = not-outside (within tt tt) (so-it-holds (p .refusal))
 
 -- in C: knots and values handed on in the other order
-pub located-among-the-values : LocatesC (table 0-2 (pos 5 ∷ pos 9 ∷ []) 0-0) (pos 1) 6 0 0 → ⊥
+pub located-among-the-values : LocatesC (table 8 0-2 (pos 5 ∷ pos 9 ∷ []) 0-0) (pos 1) 6 0 0 → ⊥
 located-among-the-values p = not-outside (within tt tt) (so-it-holds (p .refusal))
 
 -- ---- `seek`: the numbers of a position in its piece
@@ -297,32 +299,28 @@ located-among-the-values p = not-outside (within tt tt) (so-it-holds (p .refusal
 abbrev pub SeeksNot : (t : Table) (x : ℤ) → Sought → Type 0
 SeeksNot t x s = AskedSeek t x × (Seeks t x s → ⊥)
 
--- a table is accepted that has the slopes of a build
-built : {ks vs ss : List ℤ} → Limits.PointsWithin ks vs → ss ≡ builtSlopes ks vs → length ss ≡ length ks → Accepted (table ks vs ss)
-built {ss = ss} p e l = accepted-table refl (a-built-table-passes-the-table-check (has-slopes {before = ss} p e l))
-
 -- 2 counts into the piece, from its left value 0, and not 1, from its left knot 1
-pub a-place-counted-from-the-left-value : SeeksNot (table (pos 1 ∷ pos 4 ∷ []) (pos 0 ∷ negsuc 9 ∷ []) (negsuc 852 ∷ negsuc 852 ∷ [])) (pos 2) (On (record { piece = 0; left = pos 0; h = pos 3; z = negsuc 9; m = negsuc 852; n = negsuc 852; t = pos 2 }))
-a-place-counted-from-the-left-value = (built (points-by-test _ _ refl (count tt tt) tt) refl refl, λ s. numbers-differ tt (sought-on s .1 .t-is))
+pub a-place-counted-from-the-left-value : SeeksNot (table 8 (pos 1 ∷ pos 4 ∷ []) (pos 0 ∷ negsuc 9 ∷ []) (negsuc 852 ∷ negsuc 852 ∷ [])) (pos 2) (On (record { piece = 0; left = pos 0; h = pos 3; z = negsuc 9; m = negsuc 852; n = negsuc 852; t = pos 2 }))
+a-place-counted-from-the-left-value = ((points-by-test _ _ refl (count tt tt) tt, refl), λ s. numbers-differ tt (sought-on s .1 .t-is))
 
 pub the-left-slope-twice : SeeksNot rise (pos 0) (On (record { piece = 0; left = pos 0; h = pos 1; z = pos 1; m = pos 0; n = pos 0; t = pos 0 }))
-the-left-slope-twice = (built (points-by-test _ _ refl (count tt tt) tt) refl refl, λ s. numbers-differ tt (sought-on s .1 .n-is))
+the-left-slope-twice = ((points-by-test _ _ refl (count tt tt) tt, refl), λ s. numbers-differ tt (sought-on s .1 .n-is))
 
 -- the last knot is in no piece, as one that ends there would have it
 pub the-last-knot-sought-outside : SeeksNot fall (pos 3) Outside
-the-last-knot-sought-outside = (built (points-by-test _ _ refl (count tt tt) tt) refl refl, λ s. sought-outside s (within tt tt))
+the-last-knot-sought-outside = ((points-by-test _ _ refl (count tt tt) tt, refl), λ s. sought-outside s (within tt tt))
 
 -- the place of a position in a piece that it does not belong to
 pub a-spot-in-the-piece-that-ends-there : SeeksNot rise (pos 1) (On (record { piece = 0; left = pos 0; h = pos 1; z = pos 1; m = pos 0; n = pos 384; t = pos 1 }))
 a-spot-in-the-piece-that-ends-there =
-    let a = built (points-by-test _ _ refl (count tt tt) tt) refl refl in
-    (a, λ s. omega (arith, one-piece (a .limits) (sought-on s .1 .belongs) (in-piece 1 tt tt tt)))
+    let p = points-by-test 0-1-2 0-1-4 refl (count tt tt) tt in
+    ((p, refl), λ s. omega (arith, one-piece p (sought-on s .1 .belongs) (in-piece 1 tt tt tt)))
 
 -- whatever stands behind the end of the lists
 pub a-spot-in-a-piece-that-is-not-there : {left h z m n t : ℤ} → SeeksNot rise (pos 2) (On (record { piece = 2; left = left; h = h; z = z; m = m; n = n; t = t }))
 a-spot-in-a-piece-that-is-not-there =
-    let a = built (points-by-test _ _ refl (count tt tt) tt) refl refl in
-    (a, λ s. omega (arith, one-piece (a .limits) (sought-on s .1 .belongs) (at-last-knot {i = 1} refl refl)))
+    let p = points-by-test 0-1-2 0-1-4 refl (count tt tt) tt in
+    ((p, refl), λ s. omega (arith, one-piece p (sought-on s .1 .belongs) (at-last-knot {i = 1} refl refl)))
 
 -- ---- `evaluate`: the value at a position
 
@@ -332,39 +330,39 @@ its-value {t} {x} e b =
     let v = answer-right refl (e .value) in v .is ∙ ap (λ (i : ℕ). valueOn t i x) (one-piece (accepted-at refl (e .refusal) .limits) (v .belongs) b)
 
 -- 2Z for 3Z in the square's coefficient: 2, and not 4; and 3Z for 2Z in the cube's: 3
-pub another-square : Evaluates (table 0-2 (pos 0 ∷ pos 8 ∷ []) (pos 1024 ∷ pos 1024 ∷ [])) (pos 1) 0 0 (pos 2) → ⊥
+pub another-square : Evaluates (table 8 0-2 (pos 0 ∷ pos 8 ∷ []) (pos 1024 ∷ pos 1024 ∷ [])) (pos 1) 0 0 (pos 2) → ⊥
 another-square p = numbers-differ tt (its-value p (in-piece 0 tt tt tt))
 
-pub another-cube : Evaluates (table 0-2 (pos 0 ∷ pos 8 ∷ []) (pos 1024 ∷ pos 1024 ∷ [])) (pos 1) 0 0 (pos 3) → ⊥
+pub another-cube : Evaluates (table 8 0-2 (pos 0 ∷ pos 8 ∷ []) (pos 1024 ∷ pos 1024 ∷ [])) (pos 1) 0 0 (pos 3) → ⊥
 another-cube p = numbers-differ tt (its-value p (in-piece 0 tt tt tt))
 
 -- 256·3·h² below: 1, and not 2
-pub another-denominator : Evaluates (table 0-2 (pos 0 ∷ pos 4 ∷ []) (pos 512 ∷ pos 512 ∷ [])) (pos 1) 0 0 (pos 1) → ⊥
+pub another-denominator : Evaluates (table 8 0-2 (pos 0 ∷ pos 4 ∷ []) (pos 512 ∷ pos 512 ∷ [])) (pos 1) 0 0 (pos 1) → ⊥
 another-denominator p = numbers-differ tt (its-value p (in-piece 0 tt tt tt))
 
 -- t for h in one of Horner's steps: 0, and not 2
-pub another-step-of-the-value : Evaluates (table (pos 0 ∷ pos 3 ∷ []) (pos 0 ∷ pos 8 ∷ []) 0-0) (pos 1) 0 0 (pos 0) → ⊥
+pub another-step-of-the-value : Evaluates (table 8 (pos 0 ∷ pos 3 ∷ []) (pos 0 ∷ pos 8 ∷ []) 0-0) (pos 1) 0 0 (pos 0) → ⊥
 another-step-of-the-value p = numbers-differ tt (its-value p (in-piece 0 tt tt tt))
 
 -- the place counted from the left value: −7, and not −3
-pub a-value-at-another-place : Evaluates (table (pos 1 ∷ pos 4 ∷ []) (pos 0 ∷ negsuc 9 ∷ []) (negsuc 852 ∷ negsuc 852 ∷ [])) (pos 2) 0 0 (negsuc 6) → ⊥
+pub a-value-at-another-place : Evaluates (table 8 (pos 1 ∷ pos 4 ∷ []) (pos 0 ∷ negsuc 9 ∷ []) (negsuc 852 ∷ negsuc 852 ∷ [])) (pos 2) 0 0 (negsuc 6) → ⊥
 a-value-at-another-place p = numbers-differ tt (its-value p (in-piece 0 tt tt tt))
 
 -- 2, and not 1, which is a half gone up
-pub a-value-with-the-left-slope-twice : Evaluates (table 0-2 (pos 0 ∷ pos 4 ∷ []) (pos 0 ∷ pos 1536 ∷ [])) (pos 1) 0 0 (pos 2) → ⊥
+pub a-value-with-the-left-slope-twice : Evaluates (table 8 0-2 (pos 0 ∷ pos 4 ∷ []) (pos 0 ∷ pos 1536 ∷ [])) (pos 1) 0 0 (pos 2) → ⊥
 a-value-with-the-left-slope-twice p = numbers-differ tt (its-value p (in-piece 0 tt tt tt))
 
-pub a-value-where-refused : {x : ℤ} → Evaluates (table [] [] []) x 2 0 (pos 1) → ⊥
+pub a-value-where-refused : {x : ℤ} → Evaluates (table 8 [] [] []) x 2 0 (pos 1) → ⊥
 a-value-where-refused p = numbers-differ tt (answers-nothing (p .value))
 
 -- in C: slopes and values handed on in the other order, so that it bends
-pub slopes-for-values : EvaluatesC (table 0-1 (pos 5 ∷ pos 6 ∷ []) (pos 256 ∷ pos 256 ∷ [])) (pos 0) 5 0 (pos 0) → ⊥
+pub slopes-for-values : EvaluatesC (table 8 0-1 (pos 5 ∷ pos 6 ∷ []) (pos 256 ∷ pos 256 ∷ [])) (pos 0) 5 0 (pos 0) → ⊥
 slopes-for-values p = no-bend-there a-straight-rise (so-it-holds (p .refusal))
 
 -- ---- `point` of `change`: (0,0), (1,1), (2,4), (3,7) as a build leaves them
 
 abbrev four : Table
-four = table 0-1-2-3 0-1-4-7 (pos 0 ∷ pos 384 ∷ pos 768 ∷ pos 768 ∷ [])
+four = table 8 0-1-2-3 0-1-4-7 (pos 0 ∷ pos 384 ∷ pos 768 ∷ pos 768 ∷ [])
 
 -- point 0 gets the value −2, and point 1 the value 2
 abbrev values-0 : List ℤ
@@ -373,50 +371,50 @@ values-0 = negsuc 1 ∷ pos 1 ∷ pos 4 ∷ pos 7 ∷ []
 abbrev values-1 : List ℤ
 values-1 = pos 0 ∷ pos 2 ∷ pos 4 ∷ pos 7 ∷ []
 
-pub refused-though-made : Changes four (to 0 (pos 0) (negsuc 1)) 7 0 (table 0-1-2-3 values-0 (pos 768 ∷ pos 768 ∷ pos 768 ∷ pos 768 ∷ [])) → ⊥
+pub refused-though-made : Changes four (to 0 (pos 0) (negsuc 1)) 7 0 (table 8 0-1-2-3 values-0 (pos 768 ∷ pos 768 ∷ pos 768 ∷ pos 768 ∷ [])) → ⊥
 refused-though-made p = the-point-is-there (lit< tt) (so-it-holds (p .refusal))
 
 -- 512, 512, 614, 896 are right
-pub the-left-neighbours-slope-only : Changes four (to 1 (pos 1) (pos 2)) 0 0 (table 0-1-2-3 values-1 (pos 512 ∷ pos 512 ∷ pos 768 ∷ pos 896 ∷ [])) → ⊥
+pub the-left-neighbours-slope-only : Changes four (to 1 (pos 1) (pos 2)) 0 0 (table 8 0-1-2-3 values-1 (pos 512 ∷ pos 512 ∷ pos 768 ∷ pos 896 ∷ [])) → ⊥
 the-left-neighbours-slope-only p = lists-differ tt (p .slopes)
 
-pub the-right-neighbours-slope-only : Changes four (to 1 (pos 1) (pos 2)) 0 0 (table 0-1-2-3 values-1 (pos 0 ∷ pos 512 ∷ pos 614 ∷ pos 896 ∷ [])) → ⊥
+pub the-right-neighbours-slope-only : Changes four (to 1 (pos 1) (pos 2)) 0 0 (table 8 0-1-2-3 values-1 (pos 0 ∷ pos 512 ∷ pos 614 ∷ pos 896 ∷ [])) → ⊥
 the-right-neighbours-slope-only p = lists-differ tt (p .slopes)
 
 -- the slope of an end that is two points away left as it was: the last one here, and slope 0 where point 2 becomes (2,2), for which 256, 256, 426, 1792 are right
-pub the-last-slope-two-points-away-left : Changes four (to 1 (pos 1) (pos 2)) 0 0 (table 0-1-2-3 values-1 (pos 512 ∷ pos 512 ∷ pos 614 ∷ pos 768 ∷ [])) → ⊥
+pub the-last-slope-two-points-away-left : Changes four (to 1 (pos 1) (pos 2)) 0 0 (table 8 0-1-2-3 values-1 (pos 512 ∷ pos 512 ∷ pos 614 ∷ pos 768 ∷ [])) → ⊥
 the-last-slope-two-points-away-left p = lists-differ tt (p .slopes)
 
-pub slope-0-two-points-away-left : Changes four (to 2 (pos 2) (pos 2)) 0 0 (table 0-1-2-3 (pos 0 ∷ pos 1 ∷ pos 2 ∷ pos 7 ∷ []) (pos 0 ∷ pos 256 ∷ pos 426 ∷ pos 1792 ∷ [])) → ⊥
+pub slope-0-two-points-away-left : Changes four (to 2 (pos 2) (pos 2)) 0 0 (table 8 0-1-2-3 (pos 0 ∷ pos 1 ∷ pos 2 ∷ pos 7 ∷ []) (pos 0 ∷ pos 256 ∷ pos 426 ∷ pos 1792 ∷ [])) → ⊥
 slope-0-two-points-away-left p = lists-differ tt (p .slopes)
 
 -- of three points, (0,0), (1,0), (2,1) with 0, 0, 384, the first raised to (0,1): −512, 0, 512 are right
-pub the-third-of-three-slopes-left : Changes (table 0-1-2 (pos 0 ∷ pos 0 ∷ pos 1 ∷ []) (pos 0 ∷ pos 0 ∷ pos 384 ∷ [])) (to 0 (pos 0) (pos 1)) 0 0 (table 0-1-2 (pos 1 ∷ pos 0 ∷ pos 1 ∷ []) (negsuc 511 ∷ pos 0 ∷ pos 384 ∷ [])) → ⊥
+pub the-third-of-three-slopes-left : Changes (table 8 0-1-2 (pos 0 ∷ pos 0 ∷ pos 1 ∷ []) (pos 0 ∷ pos 0 ∷ pos 384 ∷ [])) (to 0 (pos 0) (pos 1)) 0 0 (table 8 0-1-2 (pos 1 ∷ pos 0 ∷ pos 1 ∷ []) (negsuc 511 ∷ pos 0 ∷ pos 384 ∷ [])) → ⊥
 the-third-of-three-slopes-left p = lists-differ tt (p .slopes)
 
 -- whatever the slopes were: of 1, 2, 3, 4 the last two stay
-pub one-slope-too-many : Changes (table 0-1-2-3 0-1-4-7 (pos 1 ∷ pos 2 ∷ pos 3 ∷ pos 4 ∷ [])) (to 0 (pos 0) (pos 0)) 0 0 (table 0-1-2-3 0-1-4-7 (pos 0 ∷ pos 384 ∷ pos 768 ∷ pos 4 ∷ [])) → ⊥
+pub one-slope-too-many : Changes (table 8 0-1-2-3 0-1-4-7 (pos 1 ∷ pos 2 ∷ pos 3 ∷ pos 4 ∷ [])) (to 0 (pos 0) (pos 0)) 0 0 (table 8 0-1-2-3 0-1-4-7 (pos 0 ∷ pos 384 ∷ pos 768 ∷ pos 4 ∷ [])) → ⊥
 one-slope-too-many p = lists-differ tt (p .slopes)
 
-pub slopes-of-the-old-points : Changes four (to 0 (pos 0) (negsuc 1)) 0 0 (table 0-1-2-3 values-0 (pos 0 ∷ pos 384 ∷ pos 768 ∷ pos 768 ∷ [])) → ⊥
+pub slopes-of-the-old-points : Changes four (to 0 (pos 0) (negsuc 1)) 0 0 (table 8 0-1-2-3 values-0 (pos 0 ∷ pos 384 ∷ pos 768 ∷ pos 768 ∷ [])) → ⊥
 slopes-of-the-old-points p = lists-differ tt (p .slopes)
 
 -- whatever it leaves in the lists
-pub a-change-onto-the-next-knot-made : {after : Table} → Changes four (to 1 (pos 2) (pos 1)) 0 0 after → ⊥
-a-change-onto-the-next-knot-made p = overlooked (p .refusal) 3 1 (of-points (too-narrow tt tt)) tt
+pub a-change-onto-the-next-knot-made : (after : Table) → Changes four (to 1 (pos 2) (pos 1)) 0 0 after → ⊥
+a-change-onto-the-next-knot-made after p = overlooked (p .refusal) 3 1 (of-points (too-narrow tt tt)) tt
 
-pub a-change-to-too-large-a-rise-made : {after : Table} → Changes (table 0-1-2 0-0-0 0-0-0) (to 1 (pos 1) (pos 1048577)) 0 0 after → ⊥
-a-change-to-too-large-a-rise-made p = overlooked (p .refusal) 4 0 (of-points (too-high tt tt)) tt
+pub a-change-to-too-large-a-rise-made : (after : Table) → Changes (table 8 0-1-2 0-0-0 0-0-0) (to 1 (pos 1) (pos 1048577)) 0 0 after → ⊥
+a-change-to-too-large-a-rise-made after p = overlooked (p .refusal) 4 0 (of-points (too-high tt tt)) tt
 
 pub idle-past-the-first-point : Changes four (to 1 (pos 1) (pos 2)) 0 0 four → ⊥
 idle-past-the-first-point p = lists-differ tt (p .values)
 
-pub the-new-value-among-the-knots : {slopes : List ℤ} → Changes four (to 0 (pos 0) (negsuc 1)) 0 0 (table (negsuc 1 ∷ pos 1 ∷ pos 2 ∷ pos 3 ∷ []) values-0 slopes) → ⊥
+pub the-new-value-among-the-knots : {slopes : List ℤ} → Changes four (to 0 (pos 0) (negsuc 1)) 0 0 (table 8 (negsuc 1 ∷ pos 1 ∷ pos 2 ∷ pos 3 ∷ []) values-0 slopes) → ⊥
 the-new-value-among-the-knots p = lists-differ tt (p .knots)
 
-pub the-new-value-forgotten : {slopes : List ℤ} → Changes four (to 0 (pos 0) (negsuc 1)) 0 0 (table 0-1-2-3 0-1-4-7 slopes) → ⊥
+pub the-new-value-forgotten : {slopes : List ℤ} → Changes four (to 0 (pos 0) (negsuc 1)) 0 0 (table 8 0-1-2-3 0-1-4-7 slopes) → ⊥
 the-new-value-forgotten p = lists-differ tt (p .values)
 
 -- in C: the change asked for and never made
-pub a-change-asked-only : ChangesC (table 0-1 0-1 (pos 256 ∷ pos 256 ∷ [])) (to 0 (pos 0) (pos 5)) 0 0 (table 0-1 0-1 (pos 256 ∷ pos 256 ∷ [])) → ⊥
+pub a-change-asked-only : ChangesC (table 8 0-1 0-1 (pos 256 ∷ pos 256 ∷ [])) (to 0 (pos 0) (pos 5)) 0 0 (table 8 0-1 0-1 (pos 256 ∷ pos 256 ∷ [])) → ⊥
 a-change-asked-only p = lists-differ tt (p .values)
