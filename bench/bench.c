@@ -21,7 +21,8 @@ typedef struct {
 static int32_t all[KINDS][SIZES][3][POINTS];
 static uint16_t sought[SIZES][POINTS]; /* pieces at random, of tables of each size */
 static piece pieces[POINTS];
-static kind_of_table kind; /* of the tables that calls are about */
+static uint32_t unit = NEGWAFIR_MOST_UNIT; /* of the tables that calls are about: what is timed has 8, but for the last rows */
+static kind_of_table kind; /* of these tables */
 static size_t size, length;
 static size_t turn; /* how often they have been gone over */
 static bool follow; /* one table is asked alone, count by count, as an arm follows it; else each in turn, at a position at random */
@@ -40,7 +41,7 @@ static table table_at(size_t start)
     return (table){lists[0] + start, lists[1] + start, lists[2] + start};
 }
 
-#define LISTS t.knots, length, t.values, length, t.slopes, length
+#define LISTS unit, t.knots, length, t.values, length, t.slopes, length
 
 /* ---- the input */
 
@@ -84,19 +85,19 @@ static negwafir_change change_in(table t, size_t start)
 
 /* ---- before anything is timed: that the two answer alike and leave the same lists */
 
-static size_t refused[NEGWAFIR_SIZE + 1]; /* how often each refusal was seen */
+static size_t refused[NEGWAFIR_SLOPE_UNIT + 1]; /* how often each refusal was seen */
 
 static void want(bool so, const char *what)
 {
     if (!so) {
-        fprintf(stderr, "bench: %s of %zu points, %s: the two do not answer alike\n", what, length, kinds[kind]);
+        fprintf(stderr, "bench: %s of %zu points, %s, unit %u: the two do not answer alike\n", what, length, kinds[kind], (unsigned)unit);
         exit(1);
     }
 }
 
 static bool same_refusal(negwafir_refusal a, negwafir_refusal b)
 {
-    if (a.number <= NEGWAFIR_SIZE)
+    if (a.number <= NEGWAFIR_SLOPE_UNIT)
         refused[a.number]++;
     return a.number == b.number && a.place == b.place;
 }
@@ -127,12 +128,19 @@ static table lists_of(copy *c)
     return (table){c->knots, c->values, c->slopes};
 }
 
+/* A slope in 1/256 in the present unit, rounded toward zero: so a built one becomes the one that a build makes there. */
+static int32_t in_units(int32_t slope)
+{
+    return unit <= NEGWAFIR_MOST_UNIT ? slope / (256 >> unit) : slope;
+}
+
 static void copy_table(copy *c, table t)
 {
     memset(c, 0, sizeof *c);
     memcpy(c->knots, t.knots, length * sizeof *t.knots);
     memcpy(c->values, t.values, length * sizeof *t.values);
-    memcpy(c->slopes, t.slopes, length * sizeof *t.slopes);
+    for (size_t i = 0; i < length; i++)
+        c->slopes[i] = in_units(t.slopes[i]);
 }
 
 static void compare_changes(const copy *c, negwafir_change change)
@@ -141,7 +149,7 @@ static void compare_changes(const copy *c, negwafir_change change)
     ours = theirs = *c;
     table t = lists_of(&ours), u = lists_of(&theirs);
     want(same_refusal(negwafir_change_point(LISTS, change),
-                      reference_change_point(u.knots, length, u.values, length, u.slopes, length, change)), "change");
+                      reference_change_point(unit, u.knots, length, u.values, length, u.slopes, length, change)), "change");
     want(memcmp(&ours, &theirs, sizeof ours) == 0, "lists after a change");
 }
 
@@ -150,7 +158,7 @@ static void compare_builds(const copy *c)
     static copy ours, theirs;
     ours = theirs = *c;
     table t = lists_of(&ours), u = lists_of(&theirs);
-    want(same_refusal(negwafir_build(LISTS), reference_build(u.knots, length, u.values, length, u.slopes, length)), "build");
+    want(same_refusal(negwafir_build(LISTS), reference_build(unit, u.knots, length, u.values, length, u.slopes, length)), "build");
     want(memcmp(&ours, &theirs, sizeof ours) == 0, "lists after a build");
 }
 
@@ -223,9 +231,11 @@ static negwafir_change some_change(table t)
     return (negwafir_change){k, fitted(t.knots[k] + dice(-300, 300)), fitted(t.values[k] + about(NEGWAFIR_MOST_RISE))};
 }
 
+/* At some unit, or at one that is refused. */
 static void compare_spoilt(table from)
 {
     static copy c;
+    unit = (uint32_t)dice(0, NEGWAFIR_MOST_UNIT + 1);
     copy_table(&c, from);
     table t = lists_of(&c);
     for (int64_t faults = dice(0, 3); faults > 0; faults--)
@@ -233,20 +243,23 @@ static void compare_spoilt(table from)
     int32_t first = t.knots[0], last = t.knots[length - 1];
     int32_t position = dice(0, 3) == 0 || last < first ? any_number() : (int32_t)dice(first, last);
     compare_answers(&c, position, some_change(t));
+    unit = NEGWAFIR_MOST_UNIT;
 }
 
-/* Lists of any lengths around the limits, each list's own. */
+/* Lists of any lengths around the limits, each list's own, at a unit that is taken and at one that is not. */
 static void compare_lengths(void)
 {
     static const size_t some[] = {0, 1, 2, 3, LARGEST, LARGEST + 1};
     static copy c;
     choose(RISING, SIZES - 1);
     copy_table(&c, table_at(0));
-    for (size_t i = 0; i < 6 * 6 * 6; i++) {
-        size_t k = some[i % 6], v = some[i / 6 % 6], s = some[i / 36];
-        want(same_refusal(negwafir_check(c.knots, k, c.values, v, c.slopes, s), reference_check(c.knots, k, c.values, v, c.slopes, s)),
+    for (size_t i = 0; i < 2 * 6 * 6 * 6; i++) {
+        size_t k = some[i % 6], v = some[i / 6 % 6], m = some[i / 36 % 6];
+        unit = i < 6 * 6 * 6 ? NEGWAFIR_MOST_UNIT : NEGWAFIR_MOST_UNIT + 1;
+        want(same_refusal(negwafir_check(unit, c.knots, k, c.values, v, c.slopes, m), reference_check(unit, c.knots, k, c.values, v, c.slopes, m)),
              "lengths");
     }
+    unit = NEGWAFIR_MOST_UNIT;
 }
 
 /* Two points alone, and tables so short that each point is near an end: parts of mixed tables. Their end slopes are those of inner points, so
@@ -282,9 +295,12 @@ static void compare_verdicts(void)
 {
     for (size_t j = 0; j < POINTS; j++) {
         piece *p = &pieces[j];
-        negwafir_judgement a = negwafir_judge(p->h, p->z, p->m, p->n), b = reference_judge(p->h, p->z, p->m, p->n);
+        unit = j % (NEGWAFIR_MOST_UNIT + 2);
+        int32_t m = in_units(p->m), n = in_units(p->n);
+        negwafir_judgement a = negwafir_judge(unit, p->h, p->z, m, n), b = reference_judge(unit, p->h, p->z, m, n);
         want(same_refusal(a.refusal, b.refusal) && a.verdict == b.verdict, "verdict");
     }
+    unit = NEGWAFIR_MOST_UNIT;
 }
 
 static void compare_all(void)
@@ -306,8 +322,8 @@ static void compare_all(void)
     compare_lengths();
     compare_large();
     compare_verdicts();
-    for (size_t number = 0; number <= NEGWAFIR_SIZE; number++)
-        if (refused[number] == 0) {
+    for (size_t number = 0; number <= NEGWAFIR_SLOPE_UNIT; number++)
+        if (refused[number] == 0 && (number <= NEGWAFIR_SIZE || number == NEGWAFIR_SLOPE_UNIT)) {
             fprintf(stderr, "bench: no call was answered by %zu, so that nothing was compared\n", number);
             exit(1);
         }
@@ -331,7 +347,7 @@ static void compare_all(void)
     {                                                                                       \
         uint64_t sum = 0;                                                                   \
         for (size_t j = 0; j < POINTS; j++)                                                 \
-            sum += judge(pieces[j].h, pieces[j].z, pieces[j].m, pieces[j].n).verdict;       \
+            sum += judge(unit, pieces[j].h, pieces[j].z, pieces[j].m, pieces[j].n).verdict; \
         return sum;                                                                         \
     }
 
@@ -412,8 +428,8 @@ static void compare(const char *what, uint64_t (*ours)(void), uint64_t (*theirs)
         ratios[i] = our_time / their_time;
     }
     double ratio = middle(ratios);
-    printf("| %s | %s | %zu | %.2f | %.2f | %.2f to %.2f |\n", what, follow ? "one, followed" : kinds[kind], length, middle(own), ratio, ratios[ROUNDS / 10],
-           ratios[ROUNDS - 1 - ROUNDS / 10]);
+    printf("| %s | %s%s | %zu | %.2f | %.2f | %.2f to %.2f |\n", what, follow ? "one, followed" : kinds[kind], unit == 0 ? ", s = 0" : "", length,
+           middle(own), ratio, ratios[ROUNDS / 10], ratios[ROUNDS - 1 - ROUNDS / 10]);
     fflush(stdout);
 }
 
@@ -433,6 +449,15 @@ static void compare_kind(void)
         return;
     compare("build", our_build, their_build);
     compare("change", our_change, their_change);
+}
+
+/* Mixed tables at the smallest unit, where other numbers are multiplied and divided: their slopes are built anew. */
+static void compare_at_unit_0(void)
+{
+    choose(MIXED, SIZES - 1);
+    unit = 0;
+    compare("build", our_build, their_build);
+    compare("evaluation", our_evaluate, their_evaluate);
 }
 
 /* Its argument says what the library is timed beside. */
@@ -464,5 +489,7 @@ int main(int count, char **arguments)
         choose(MIXED, s);
         compare_at_positions();
     }
+    follow = false;
+    compare_at_unit_0();
     return 0;
 }

@@ -4,13 +4,24 @@
    nothing. */
 #include "reference.h"
 
-enum { DONE, LENGTHS, COUNT, WIDTH, RISE, BEND, POSITION, POINT, SIZE };
+enum { DONE, LENGTHS, COUNT, WIDTH, RISE, BEND, POSITION, POINT, SIZE, SLOPE_UNIT = 12 };
 enum { NONE, RISING, FALLING, FLAT, BENDS };
 enum { DWELL, MOVE };
 
 static negwafir_refusal refusal(uint32_t number, size_t place)
 {
     return (negwafir_refusal){number, place};
+}
+
+static inline bool unit_within(uint32_t s)
+{
+    return s <= 8;
+}
+
+/* Worked out once a call, and multiplied by: C does not say what a shift makes of a number below 0. */
+static inline int64_t unit_of(uint32_t s)
+{
+    return INT64_C(1) << s;
 }
 
 static inline bool width_within(int64_t h)
@@ -38,9 +49,9 @@ static inline int64_t step(const int32_t *list, size_t i)
 /* One test for all three signs: a fall is mirrored, and without a rise it leaves only slopes of 0. Compared without a sign, what is
    below 0 is above every limit. Up to the line a + b = 3Z the product of `over` and its size is not above 0, and so not above a * b;
    beyond it, it is the square. So nothing that changes from piece to piece is a branch. */
-static inline bool is_monotone(int64_t h, int64_t z, int64_t m, int64_t n)
+static inline bool is_monotone(int64_t unit, int64_t h, int64_t z, int64_t m, int64_t n)
 {
-    int64_t way = z < 0 ? -h : h, rise = 256 * size_of(z), a = m * way, b = n * way;
+    int64_t way = z < 0 ? -h : h, rise = unit * size_of(z), a = m * way, b = n * way;
     uint64_t most = 4 * (uint64_t)rise;
     if ((uint64_t)a > most || (uint64_t)b > most)
         return false;
@@ -48,21 +59,25 @@ static inline bool is_monotone(int64_t h, int64_t z, int64_t m, int64_t n)
     return over * size_of(over) <= a * b;
 }
 
-negwafir_judgement reference_judge(int64_t h, int64_t z, int32_t m, int32_t n)
+negwafir_judgement reference_judge(uint32_t s, int64_t h, int64_t z, int32_t m, int32_t n)
 {
+    if (!unit_within(s))
+        return (negwafir_judgement){refusal(SLOPE_UNIT, 0), NONE};
     if (!width_within(h))
         return (negwafir_judgement){refusal(WIDTH, 0), NONE};
     if (!rise_within(z))
         return (negwafir_judgement){refusal(RISE, 0), NONE};
-    if (!is_monotone(h, z, m, n))
+    if (!is_monotone(unit_of(s), h, z, m, n))
         return (negwafir_judgement){refusal(DONE, 0), BENDS};
     return (negwafir_judgement){refusal(DONE, 0), z > 0 ? RISING : z < 0 ? FALLING : FLAT};
 }
 
 /* ---- a table */
 
-static inline negwafir_refusal lengths(size_t knots_length, size_t values_length, size_t slopes_length)
+static inline negwafir_refusal outline(uint32_t s, size_t knots_length, size_t values_length, size_t slopes_length)
 {
+    if (!unit_within(s))
+        return refusal(SLOPE_UNIT, 0);
     if (values_length != knots_length || slopes_length != knots_length)
         return refusal(LENGTHS, 0);
     if (knots_length < 2 || knots_length > 1024)
@@ -83,18 +98,18 @@ static __attribute__((noinline)) negwafir_refusal named(const int32_t *knots, co
     return refusal(BEND, from);
 }
 
-negwafir_refusal reference_check(const int32_t *knots, size_t knots_length, const int32_t *values, size_t values_length,
+negwafir_refusal reference_check(uint32_t s, const int32_t *knots, size_t knots_length, const int32_t *values, size_t values_length,
                                  const int32_t *slopes, size_t slopes_length)
 {
-    negwafir_refusal counted = lengths(knots_length, values_length, slopes_length);
-    if (counted.number != DONE)
-        return counted;
-    const int32_t *k = knots, *v = values, *s = slopes, *last = knots + knots_length - 1;
-    int64_t knot = *k, value = *v, slope = *s;
+    negwafir_refusal outlined = outline(s, knots_length, values_length, slopes_length);
+    if (outlined.number != DONE)
+        return outlined;
+    const int32_t *k = knots, *v = values, *m = slopes, *last = knots + knots_length - 1;
+    int64_t unit = unit_of(s), knot = *k, value = *v, slope = *m;
     while (k != last) {
-        int64_t next_knot = *++k, next_value = *++v, next_slope = *++s;
+        int64_t next_knot = *++k, next_value = *++v, next_slope = *++m;
         int64_t h = next_knot - knot, z = next_value - value;
-        if (!width_within(h) || !rise_within(z) || !is_monotone(h, z, slope, next_slope))
+        if (!width_within(h) || !rise_within(z) || !is_monotone(unit, h, z, slope, next_slope))
             return named(knots, values, knots_length, (size_t)(k - knots) - 1);
         knot = next_knot;
         value = next_value;
@@ -119,66 +134,66 @@ static inline bool within(const int32_t *knots, const int32_t *values, size_t fr
 
 /* ---- slopes */
 
-static inline int32_t secant_slope(int64_t h, int64_t z)
+static inline int32_t secant_slope(int64_t unit, int64_t h, int64_t z)
 {
-    return (int32_t)(256 * z / h);
+    return (int32_t)(unit * z / h);
 }
 
 /* The end piece is h1, z1 and its neighbour h2, z2. One form for all signs: a fall is mirrored, a quotient above the bound is only found where
    the neighbour goes the other way, whose sign is not looked at therefore, and without a rise the bound is 0. There is one division, whether
    of the quotient or of the bound. */
-static inline int32_t end_slope(int64_t h1, int64_t z1, int64_t h2, int64_t z2)
+static inline int32_t end_slope(int64_t unit, int64_t h1, int64_t z1, int64_t h2, int64_t z2)
 {
     int64_t rise = size_of(z1), next = z1 < 0 ? -z2 : z2;
     int64_t above = (2 * h1 + h2) * h2 * rise - h1 * h1 * next, below = h2 * (h1 + h2);
     if (above <= 0)
         return 0;
     bool bounded = above > 3 * rise * below;
-    int64_t size = 256 * (bounded ? 3 * rise : above) / (bounded ? h1 : h1 * below);
+    int64_t size = unit * (bounded ? 3 * rise : above) / (bounded ? h1 : h1 * below);
     return (int32_t)(z1 < 0 ? -size : size);
 }
 
-static inline int32_t inner_slope(int64_t h1, int64_t z1, int64_t h2, int64_t z2)
+static inline int32_t inner_slope(int64_t unit, int64_t h1, int64_t z1, int64_t h2, int64_t z2)
 {
     if (z1 * z2 <= 0)
         return 0;
     /* Both signs at once: above is positive, and below has the sign of the rises, so that the division rounds toward zero. */
-    return (int32_t)(768 * (h1 + h2) * z1 * z2 / ((h1 + 2 * h2) * h1 * z2 + (2 * h1 + h2) * h2 * z1));
+    return (int32_t)(3 * unit * (h1 + h2) * z1 * z2 / ((h1 + 2 * h2) * h1 * z2 + (2 * h1 + h2) * h2 * z1));
 }
 
-static inline int32_t slope(const int32_t *knots, const int32_t *values, size_t length, size_t i)
+static inline int32_t slope(int64_t unit, const int32_t *knots, const int32_t *values, size_t length, size_t i)
 {
     if (length == 2)
-        return secant_slope(step(knots, 0), step(values, 0));
+        return secant_slope(unit, step(knots, 0), step(values, 0));
     if (i == 0)
-        return end_slope(step(knots, 0), step(values, 0), step(knots, 1), step(values, 1));
+        return end_slope(unit, step(knots, 0), step(values, 0), step(knots, 1), step(values, 1));
     if (i + 1 == length)
-        return end_slope(step(knots, i - 1), step(values, i - 1), step(knots, i - 2), step(values, i - 2));
-    return inner_slope(step(knots, i - 1), step(values, i - 1), step(knots, i), step(values, i));
+        return end_slope(unit, step(knots, i - 1), step(values, i - 1), step(knots, i - 2), step(values, i - 2));
+    return inner_slope(unit, step(knots, i - 1), step(values, i - 1), step(knots, i), step(values, i));
 }
 
-negwafir_refusal reference_build(const int32_t *knots, size_t knots_length, const int32_t *values, size_t values_length,
+negwafir_refusal reference_build(uint32_t s, const int32_t *knots, size_t knots_length, const int32_t *values, size_t values_length,
                                  int32_t *slopes, size_t slopes_length)
 {
-    negwafir_refusal counted = lengths(knots_length, values_length, slopes_length);
-    if (counted.number != DONE)
-        return counted;
+    negwafir_refusal outlined = outline(s, knots_length, values_length, slopes_length);
+    if (outlined.number != DONE)
+        return outlined;
     if (!within(knots, values, 0, knots_length - 1))
         return named(knots, values, knots_length, 0);
     size_t last = knots_length - 1;
-    int64_t h1 = step(knots, 0), z1 = step(values, 0);
+    int64_t unit = unit_of(s), h1 = step(knots, 0), z1 = step(values, 0);
     if (last == 1) {
-        slopes[0] = slopes[1] = secant_slope(h1, z1);
+        slopes[0] = slopes[1] = secant_slope(unit, h1, z1);
         return refusal(DONE, 0);
     }
-    slopes[0] = end_slope(h1, z1, step(knots, 1), step(values, 1));
+    slopes[0] = end_slope(unit, h1, z1, step(knots, 1), step(values, 1));
     for (size_t i = 1; i < last; i++) {
         int64_t h2 = step(knots, i), z2 = step(values, i);
-        slopes[i] = inner_slope(h1, z1, h2, z2);
+        slopes[i] = inner_slope(unit, h1, z1, h2, z2);
         h1 = h2;
         z1 = z2;
     }
-    slopes[last] = end_slope(h1, z1, step(knots, last - 2), step(values, last - 2));
+    slopes[last] = end_slope(unit, h1, z1, step(knots, last - 2), step(values, last - 2));
     return refusal(DONE, 0);
 }
 
@@ -211,12 +226,12 @@ static __attribute__((noinline)) negwafir_refusal named_after(const int32_t *kno
     return refusal(DONE, 0);
 }
 
-negwafir_refusal reference_change_point(int32_t *knots, size_t knots_length, int32_t *values, size_t values_length,
+negwafir_refusal reference_change_point(uint32_t s, int32_t *knots, size_t knots_length, int32_t *values, size_t values_length,
                                         int32_t *slopes, size_t slopes_length, negwafir_change change)
 {
-    negwafir_refusal counted = lengths(knots_length, values_length, slopes_length);
-    if (counted.number != DONE)
-        return counted;
+    negwafir_refusal outlined = outline(s, knots_length, values_length, slopes_length);
+    if (outlined.number != DONE)
+        return outlined;
     size_t k = change.point;
     if (k >= knots_length)
         return refusal(POINT, 0);
@@ -226,8 +241,9 @@ negwafir_refusal reference_change_point(int32_t *knots, size_t knots_length, int
     values[k] = change.value;
     /* The third point from an end is one of those that the end's slope is made of, so that from there on all are renewed. */
     size_t end = k + 3 < knots_length ? k + 2 : knots_length;
+    int64_t unit = unit_of(s);
     for (size_t i = k < 3 ? 0 : k - 1; i < end; i++)
-        slopes[i] = slope(knots, values, knots_length, i);
+        slopes[i] = slope(unit, knots, values, knots_length, i);
     return refusal(DONE, 0);
 }
 
@@ -245,10 +261,10 @@ static inline size_t piece_of(const int32_t *knots, size_t length, int32_t posit
     return piece;
 }
 
-negwafir_place reference_locate(const int32_t *knots, size_t knots_length, const int32_t *values, size_t values_length,
+negwafir_place reference_locate(uint32_t s, const int32_t *knots, size_t knots_length, const int32_t *values, size_t values_length,
                                 const int32_t *slopes, size_t slopes_length, int32_t position)
 {
-    negwafir_refusal checked = reference_check(knots, knots_length, values, values_length, slopes, slopes_length);
+    negwafir_refusal checked = reference_check(s, knots, knots_length, values, values_length, slopes, slopes_length);
     if (checked.number != DONE)
         return (negwafir_place){checked, 0};
     if (position < knots[0] || position > knots[knots_length - 1])
@@ -256,26 +272,26 @@ negwafir_place reference_locate(const int32_t *knots, size_t knots_length, const
     return (negwafir_place){checked, piece_of(knots, knots_length, position)};
 }
 
-negwafir_value reference_evaluate(const int32_t *knots, size_t knots_length, const int32_t *values, size_t values_length,
+negwafir_value reference_evaluate(uint32_t s, const int32_t *knots, size_t knots_length, const int32_t *values, size_t values_length,
                                   const int32_t *slopes, size_t slopes_length, int32_t position)
 {
-    negwafir_place at = reference_locate(knots, knots_length, values, values_length, slopes, slopes_length, position);
+    negwafir_place at = reference_locate(s, knots, knots_length, values, values_length, slopes, slopes_length, position);
     if (at.refusal.number != DONE)
         return (negwafir_value){at.refusal, 0};
     size_t i = at.piece;
-    int64_t h = step(knots, i), rise = 256 * step(values, i), t = (int64_t)position - knots[i];
+    int64_t unit = unit_of(s), h = step(knots, i), rise = unit * step(values, i), t = (int64_t)position - knots[i];
     int64_t a = slopes[i] * h, b = slopes[i + 1] * h;
     int64_t above = (((a + b - 2 * rise) * t + (3 * rise - 2 * a - b) * h) * t + a * (h * h)) * t;
-    int64_t cube = h * h * h, below = 256 * cube;
-    int64_t with_half = above + 128 * cube;
+    /* Of an odd `below` the half is rounded down: what is left of a division is a whole number, and none lies between the two. */
+    int64_t below = unit * (h * h * h), with_half = above + (below >> 1);
     int64_t risen = with_half / below - (with_half % below < 0);
     return (negwafir_value){at.refusal, (int32_t)(values[i] + risen)};
 }
 
-negwafir_told reference_float_answer(const int32_t *knots, size_t knots_length, const int32_t *values, size_t values_length,
+negwafir_told reference_float_answer(uint32_t s, const int32_t *knots, size_t knots_length, const int32_t *values, size_t values_length,
                                      const int32_t *slopes, size_t slopes_length, int32_t position)
 {
-    negwafir_place at = reference_locate(knots, knots_length, values, values_length, slopes, slopes_length, position);
+    negwafir_place at = reference_locate(s, knots, knots_length, values, values_length, slopes, slopes_length, position);
     if (at.refusal.number != DONE)
         return (negwafir_told){at.refusal, DWELL, 0.0, 0.0, 1.0};
     size_t i = at.piece;
@@ -284,8 +300,8 @@ negwafir_told reference_float_answer(const int32_t *knots, size_t knots_length, 
         return (negwafir_told){refusal(SIZE, i), DWELL, 0.0, 0.0, 1.0};
     if (z == 0)
         return (negwafir_told){at.refusal, DWELL, values[i], 0.0, 1.0};
-    int64_t rise = 256 * z, a = slopes[i] * h, b = slopes[i + 1] * h;
+    int64_t unit = unit_of(s), rise = unit * z, a = slopes[i] * h, b = slopes[i + 1] * h;
     double t = (double)((int64_t)position - knots[i]), width = (double)h;
     double above = (((double)(a + b - 2 * rise) * t + (double)(3 * rise - 2 * a - b) * width) * t + (double)a * (width * width)) * t;
-    return (negwafir_told){at.refusal, MOVE, values[i], above + 0.0, (double)(256 * cube)};
+    return (negwafir_told){at.refusal, MOVE, values[i], above + 0.0, (double)(unit * cube)};
 }

@@ -27,9 +27,9 @@ static pid_t stepped; /* the process that is led; 0 in itself */
 static int32_t position;
 static negwafir_change change;
 
-/* ---- the calls: each answers the number of its refusal. A verdict is on the first piece. */
+/* ---- the calls, at the unit 8: each answers the number of its refusal. A verdict is on the first piece. */
 
-#define LISTS t.knots, LARGEST, t.values, LARGEST, t.slopes, LARGEST
+#define LISTS NEGWAFIR_MOST_UNIT, t.knots, LARGEST, t.values, LARGEST, t.slopes, LARGEST
 #define CALL(name, answer)               \
     static uint32_t call_##name(table t) \
     {                                    \
@@ -44,7 +44,8 @@ CALL(changed_points, negwafir_changed_points(LISTS, change).number)
 CALL(locate, negwafir_locate(LISTS, position).refusal.number)
 CALL(evaluate, negwafir_evaluate(LISTS, position).refusal.number)
 CALL(float_answer, negwafir_float_answer(LISTS, position).refusal.number)
-CALL(judge, negwafir_judge((int64_t)t.knots[1] - t.knots[0], (int64_t)t.values[1] - t.values[0], t.slopes[0], t.slopes[1]).refusal.number)
+CALL(judge, negwafir_judge(NEGWAFIR_MOST_UNIT, (int64_t)t.knots[1] - t.knots[0], (int64_t)t.values[1] - t.values[0], t.slopes[0], t.slopes[1])
+                .refusal.number)
 
 /* What a call is given besides the table. */
 typedef enum { NOTHING, AT_A_POSITION, WITH_A_CHANGE } also;
@@ -204,7 +205,7 @@ static void fill_large(copy *c)
         c->knots[i] = 1024 * (int32_t)i;
         c->values[i] = 2000 * (int32_t)i;
     }
-    reference_build(c->knots, LARGEST, c->values, LARGEST, c->slopes, LARGEST);
+    reference_build(NEGWAFIR_MOST_UNIT, c->knots, LARGEST, c->values, LARGEST, c->slopes, LARGEST);
 }
 
 static void enter_spoilt(const copy *from)

@@ -39,7 +39,7 @@ static void fill_built_table(table t, size_t length, kind_of_table kind)
         knot += dice(1, 200);
         value += way * dice(1, 5000);
     }
-    reference_build(t.knots, length, t.values, length, t.slopes, length);
+    reference_build(NEGWAFIR_MOST_UNIT, t.knots, length, t.values, length, t.slopes, length);
 }
 
 /* All points on one line, and each slope three times that of the line: the last test decides each piece, and just accepts it. */

@@ -17,7 +17,7 @@ typedef struct {
 /* A number from a fixed sequence, so that every run has the same input. */
 int64_t dice(int64_t low, int64_t high);
 
-/* A table that is accepted, so that no call stops early. */
+/* A table that is accepted at the unit 8, so that no call stops early. */
 void fill_table(table t, size_t length, kind_of_table kind);
 
 #endif

@@ -11,6 +11,9 @@
 
 #define POINTS 5
 
+/* The slopes are in 1/256 of a value per count, the finest unit. It belongs to the table: every call over it is given the same. */
+#define UNIT NEGWAFIR_MOST_UNIT
+
 static int32_t knots[POINTS] = {0, 4, 8, 10, 16};
 static int32_t values[POINTS] = {0, -40, -40, -25, 0};
 static int32_t slopes[POINTS];
@@ -26,6 +29,7 @@ static const char *cause(uint32_t number) {
     case NEGWAFIR_POSITION: return "position before the first or after the last knot";
     case NEGWAFIR_POINT: return "no point with this number";
     case NEGWAFIR_SIZE: return "piece too large for the exact float answer";
+    case NEGWAFIR_SLOPE_UNIT: return "the slope unit s is not in 0 to 8";
     default: return "no such refusal";
     }
 }
@@ -53,7 +57,7 @@ static void move_arm(void) {
     int32_t position;
     printf("position,value\n");
     for (position = knots[0]; position <= knots[POINTS - 1]; position++) {
-        negwafir_value at = negwafir_evaluate(knots, POINTS, values, POINTS, slopes, POINTS, position);
+        negwafir_value at = negwafir_evaluate(UNIT, knots, POINTS, values, POINTS, slopes, POINTS, position);
         if (at.refusal.number != NEGWAFIR_DONE) {
             done("evaluate", at.refusal);
             return;
@@ -64,7 +68,7 @@ static void move_arm(void) {
 
 /* The drive takes floats, and does the division itself. */
 static void tell_drive(int32_t position) {
-    negwafir_told told = negwafir_float_answer(knots, POINTS, values, POINTS, slopes, POINTS, position);
+    negwafir_told told = negwafir_float_answer(UNIT, knots, POINTS, values, POINTS, slopes, POINTS, position);
     if (told.refusal.number != NEGWAFIR_DONE)
         done("drive", told.refusal);
     else if (told.kind == NEGWAFIR_DWELL)
@@ -80,28 +84,28 @@ static void change_point(size_t point, int32_t knot, int32_t value) {
     change.point = point;
     change.knot = knot;
     change.value = value;
-    done("change", negwafir_change_point(knots, POINTS, values, POINTS, slopes, POINTS, change));
+    done("change", negwafir_change_point(UNIT, knots, POINTS, values, POINTS, slopes, POINTS, change));
     show_slopes();
 }
 
-/* Slopes from elsewhere, over our points: one of them is too steep for the piece on its left. */
+/* Slopes from elsewhere, in the same unit, over our points: one of them is too steep for the piece on its left. */
 static void judge_supplier(void) {
     static const int32_t theirs[POINTS] = {-2560, 0, 0, 6000, 1066};
-    done("supplier's slopes", negwafir_check(knots, POINTS, values, POINTS, theirs, POINTS));
+    done("supplier's slopes", negwafir_check(UNIT, knots, POINTS, values, POINTS, theirs, POINTS));
 }
 
 /* Two knots at opposite ends of 32 bits: their difference would wrap to a width of 1. */
 static void build_far_knots(void) {
     static const int32_t far_knots[2] = {INT32_MAX, INT32_MIN}, level[2] = {0, 0};
     int32_t room[2] = {0, 0};
-    done("far knots", negwafir_build(far_knots, 2, level, 2, room, 2));
+    done("far knots", negwafir_build(UNIT, far_knots, 2, level, 2, room, 2));
 }
 
 int main(void) {
-    if (!done("build", negwafir_build(knots, POINTS, values, POINTS, slopes, POINTS)))
+    if (!done("build", negwafir_build(UNIT, knots, POINTS, values, POINTS, slopes, POINTS)))
         return 1;
     show_slopes();
-    if (!done("check", negwafir_check(knots, POINTS, values, POINTS, slopes, POINTS)))
+    if (!done("check", negwafir_check(UNIT, knots, POINTS, values, POINTS, slopes, POINTS)))
         return 1;
     move_arm();
     tell_drive(1);

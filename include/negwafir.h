@@ -5,10 +5,14 @@
  * refuses exactly what they refuse. It is for Linux on x86-64; link it by -lnegwafir, and nothing else.
  *
  * THE TABLE
- *   A table is three lists of 32-bit signed numbers, with an entry for every point:
+ *   A table is a slope unit s, from 0 to 8, and three lists of 32-bit signed numbers, with an entry for
+ *   every point:
  *     knots    counts of the conveyor
  *     values   positions of the arm
- *     slopes   in 1/256 of a value per count
+ *     slopes   in 1/2^s of a value per count: whole ones at s = 0, in 1/256 at s = 8
+ *   The unit belongs to the table: it is the same s at the build and at every change, check and
+ *   evaluation. The library remembers none and converts nothing; with another s the same slopes say
+ *   another curve.
  *   Points and pieces are counted from 0. Piece i runs from point i to point i + 1. Its width is the
  *   right knot minus the left knot, its rise the right value minus the left value, and it has the
  *   slope of its left point and the slope of its right point. It is monotone if the arm, on its way
@@ -34,8 +38,9 @@
  *   that holds, in the order that stands with each function. The place is the first piece for which
  *   it does, for 8 the position's piece, and 0 where the cause is not a piece's. So all widths are
  *   asked before any rise, and all rises before any slope: a bad rise at piece 0 and a bad width at
- *   piece 9 give 3 at 9. A refused call changes no list. Its value, piece or verdict is 0, its float
- *   answer a dwell at 0.
+ *   piece 9 give 3 at 9. The slope unit is asked before all else: one above 8 gives 12, whatever the
+ *   lists are. A refused call changes no list. Its value, piece or verdict is 0, its float answer a
+ *   dwell at 0.
  *
  * CALLS AT THE SAME TIME
  *   The library keeps nothing from one call to the next and allocates no memory. It may be called
@@ -52,16 +57,16 @@
 extern "C" {
 #endif
 
-/* ---- Limits, each itself still taken, and the unit of slopes */
+/* ---- Limits, each itself still taken */
 
+#define NEGWAFIR_MOST_UNIT 8u /* for s; slopes are then in 1/256 of a value per count */
 #define NEGWAFIR_FEWEST_POINTS 2u
 #define NEGWAFIR_MOST_POINTS 1024u
 #define NEGWAFIR_LEAST_WIDTH INT64_C(1)
 #define NEGWAFIR_MOST_WIDTH INT64_C(1024)
 #define NEGWAFIR_LEAST_RISE (-INT64_C(1048576))
 #define NEGWAFIR_MOST_RISE INT64_C(1048576)
-#define NEGWAFIR_UNIT INT64_C(256) /* a slope of 256 is one value per count */
-#define NEGWAFIR_EXACT INT64_C(1099511627776) /* 2^40, for a rise's size times its width cubed: see refusal 8 */
+#define NEGWAFIR_EXACT INT64_C(1099511627776) /* 2^40, for a rise's size times its width cubed, at every s: see refusal 8 */
 
 /* ---- Refusals: their numbers */
 
@@ -74,6 +79,7 @@ extern "C" {
 #define NEGWAFIR_POSITION 6u /* position before the first or after the last knot */
 #define NEGWAFIR_POINT 7u /* no point with this number */
 #define NEGWAFIR_SIZE 8u /* piece too large for the exact float answer */
+#define NEGWAFIR_SLOPE_UNIT 12u /* the slope unit is not in 0 to 8 */
 
 /* ---- Verdicts on a piece */
 
@@ -164,16 +170,18 @@ typedef struct {
  *
  * PURPOSE    Says whether a table's points could be built on, and builds nothing: the answer is
  *            that of negwafir_build.
- * ARGUMENTS  knots, values  the points.
+ * ARGUMENTS  s  the slope unit that the slopes would have.
+ *            knots, values  the points.
  *            slopes  as long as the others; what it holds does not matter.
  * ANSWER     the refusal; NEGWAFIR_DONE at place 0 if there is none.
- * REFUSALS   1  the lists' lengths differ; place 0
- *            2  fewer than 2 or more than 1024 points; place 0
- *            3  a width is not in 1 to 1024; place: the first such piece
- *            4  a rise is outside its limits; place: the first such piece
+ * REFUSALS   12  the slope unit is not in 0 to 8; place 0
+ *             1  the lists' lengths differ; place 0
+ *             2  fewer than 2 or more than 1024 points; place 0
+ *             3  a width is not in 1 to 1024; place: the first such piece
+ *             4  a rise is outside its limits; place: the first such piece
  * LISTS      none is changed.
  */
-negwafir_refusal negwafir_points(const int32_t *knots, size_t knots_length,
+negwafir_refusal negwafir_points(uint32_t s, const int32_t *knots, size_t knots_length,
                                  const int32_t *values, size_t values_length,
                                  const int32_t *slopes, size_t slopes_length);
 
@@ -186,19 +194,21 @@ negwafir_refusal negwafir_points(const int32_t *knots, size_t knots_length,
  *            h1 and rise z1 and its neighbour of width h2 and rise z2,
  *            ((2 h1 + h2) z1/h1 - h1 z2/h2)/(h1 + h2), but 0 where that goes against z1 or z1 is
  *            0, and no more than three times z1/h1. Two points alone have the slope of their
- *            piece. All are rounded toward 0.
- * ARGUMENTS  knots, values  the points.
+ *            piece. All are rounded toward 0, to whole units.
+ * ARGUMENTS  s  the slope unit that the slopes shall have.
+ *            knots, values  the points.
  *            slopes  takes the slopes, and is as long as the others. What it holds before does not
  *            matter.
  * ANSWER     the refusal; NEGWAFIR_DONE at place 0 once the slopes are written.
- * REFUSALS   1  the lists' lengths differ; place 0
- *            2  fewer than 2 or more than 1024 points; place 0
- *            3  a width is not in 1 to 1024; place: the first such piece
- *            4  a rise is outside its limits; place: the first such piece
+ * REFUSALS   12  the slope unit is not in 0 to 8; place 0
+ *             1  the lists' lengths differ; place 0
+ *             2  fewer than 2 or more than 1024 points; place 0
+ *             3  a width is not in 1 to 1024; place: the first such piece
+ *             4  a rise is outside its limits; place: the first such piece
  * LISTS      slopes: every entry is written; if refused, unchanged.
  *            knots, values: unchanged.
  */
-negwafir_refusal negwafir_build(const int32_t *knots, size_t knots_length,
+negwafir_refusal negwafir_build(uint32_t s, const int32_t *knots, size_t knots_length,
                                 const int32_t *values, size_t values_length,
                                 int32_t *slopes, size_t slopes_length);
 
@@ -207,16 +217,18 @@ negwafir_refusal negwafir_build(const int32_t *knots, size_t knots_length,
  *
  * PURPOSE    Checks a whole table, with the slopes that it has, whoever proposed them: whether
  *            every piece is monotone.
- * ARGUMENTS  knots, values, slopes  the table.
+ * ARGUMENTS  s  the table's slope unit.
+ *            knots, values, slopes  the table.
  * ANSWER     the refusal; NEGWAFIR_DONE at place 0 if there is none.
- * REFUSALS   1  the lists' lengths differ; place 0
- *            2  fewer than 2 or more than 1024 points; place 0
- *            3  a width is not in 1 to 1024; place: the first such piece
- *            4  a rise is outside its limits; place: the first such piece
- *            5  a piece is not monotone; place: the first such piece
+ * REFUSALS   12  the slope unit is not in 0 to 8; place 0
+ *             1  the lists' lengths differ; place 0
+ *             2  fewer than 2 or more than 1024 points; place 0
+ *             3  a width is not in 1 to 1024; place: the first such piece
+ *             4  a rise is outside its limits; place: the first such piece
+ *             5  a piece is not monotone; place: the first such piece
  * LISTS      none is changed.
  */
-negwafir_refusal negwafir_check(const int32_t *knots, size_t knots_length,
+negwafir_refusal negwafir_check(uint32_t s, const int32_t *knots, size_t knots_length,
                                 const int32_t *values, size_t values_length,
                                 const int32_t *slopes, size_t slopes_length);
 
@@ -225,18 +237,20 @@ negwafir_refusal negwafir_check(const int32_t *knots, size_t knots_length,
  *
  * PURPOSE    Says whether a point could be changed, and changes nothing: the answer is that of
  *            negwafir_change_point.
- * ARGUMENTS  knots, values  the points as they are.
+ * ARGUMENTS  s  the table's slope unit.
+ *            knots, values  the points as they are.
  *            slopes  as long as the others; what it holds does not matter.
  *            change  the point's number, from 0, and the knot and the value that it would have.
  * ANSWER     the refusal; NEGWAFIR_DONE at place 0 if there is none.
- * REFUSALS   1  the lists' lengths differ; place 0
- *            2  fewer than 2 or more than 1024 points; place 0
- *            7  no point with this number; place 0
- *            3  a width is not in 1 to 1024, after the change; place: the first such piece
- *            4  a rise is outside its limits, after the change; place: the first such piece
+ * REFUSALS   12  the slope unit is not in 0 to 8; place 0
+ *             1  the lists' lengths differ; place 0
+ *             2  fewer than 2 or more than 1024 points; place 0
+ *             7  no point with this number; place 0
+ *             3  a width is not in 1 to 1024, after the change; place: the first such piece
+ *             4  a rise is outside its limits, after the change; place: the first such piece
  * LISTS      none is changed.
  */
-negwafir_refusal negwafir_changed_points(const int32_t *knots, size_t knots_length,
+negwafir_refusal negwafir_changed_points(uint32_t s, const int32_t *knots, size_t knots_length,
                                          const int32_t *values, size_t values_length,
                                          const int32_t *slopes, size_t slopes_length,
                                          negwafir_change change);
@@ -245,23 +259,25 @@ negwafir_refusal negwafir_changed_points(const int32_t *knots, size_t knots_leng
  * negwafir_change_point
  *
  * PURPOSE    Gives one point a new knot and a new value, and renews the slopes that depend on it.
- *            After a build that is done and any number of changes, refused ones among them, the
- *            slopes are those that a build would make.
- * ARGUMENTS  knots, values, slopes  the table. Its slopes are not judged; negwafir_check does that.
+ *            After a build that is done and any number of changes with the same s, refused ones among
+ *            them, the slopes are those that a build with it would make.
+ * ARGUMENTS  s  the table's slope unit, in which slopes are renewed.
+ *            knots, values, slopes  the table. Its slopes are not judged; negwafir_check does that.
  *            change  the point's number, from 0, and the knot and the value that it shall have.
  * ANSWER     the refusal; NEGWAFIR_DONE at place 0 once the change is made.
- * REFUSALS   1  the lists' lengths differ; place 0
- *            2  fewer than 2 or more than 1024 points; place 0
- *            7  no point with this number; place 0
- *            3  a width is not in 1 to 1024, after the change; place: the first such piece
- *            4  a rise is outside its limits, after the change; place: the first such piece
+ * REFUSALS   12  the slope unit is not in 0 to 8; place 0
+ *             1  the lists' lengths differ; place 0
+ *             2  fewer than 2 or more than 1024 points; place 0
+ *             7  no point with this number; place 0
+ *             3  a width is not in 1 to 1024, after the change; place: the first such piece
+ *             4  a rise is outside its limits, after the change; place: the first such piece
  * LISTS      knots, values: the point's entry is written.
  *            slopes: the point's entry and those of the points beside it, where there are such, are
  *            those of a build of the new points; and so is, with point 2, entry 0, and, with the
  *            third point from the end, the last entry.
  *            Every other entry is unchanged; if refused, every entry.
  */
-negwafir_refusal negwafir_change_point(int32_t *knots, size_t knots_length,
+negwafir_refusal negwafir_change_point(uint32_t s, int32_t *knots, size_t knots_length,
                                        int32_t *values, size_t values_length,
                                        int32_t *slopes, size_t slopes_length,
                                        negwafir_change change);
@@ -275,18 +291,20 @@ negwafir_refusal negwafir_change_point(int32_t *knots, size_t knots_length,
  *            rounded to the nearest whole number, a half going up, for rising and falling pieces
  *            alike; it lies between the values of the two points beside the position, and at a knot
  *            it is the value there. The whole table is checked first, in every call.
- * ARGUMENTS  knots, values, slopes  the table.
+ * ARGUMENTS  s  the table's slope unit.
+ *            knots, values, slopes  the table.
  *            position  a count, from the first knot to the last.
  * ANSWER     the refusal and the value; the value is 0 if refused.
- * REFUSALS   1  the lists' lengths differ; place 0
- *            2  fewer than 2 or more than 1024 points; place 0
- *            3  a width is not in 1 to 1024; place: the first such piece
- *            4  a rise is outside its limits; place: the first such piece
- *            5  a piece is not monotone; place: the first such piece
- *            6  position before the first or after the last knot; place 0
+ * REFUSALS   12  the slope unit is not in 0 to 8; place 0
+ *             1  the lists' lengths differ; place 0
+ *             2  fewer than 2 or more than 1024 points; place 0
+ *             3  a width is not in 1 to 1024; place: the first such piece
+ *             4  a rise is outside its limits; place: the first such piece
+ *             5  a piece is not monotone; place: the first such piece
+ *             6  position before the first or after the last knot; place 0
  * LISTS      none is changed.
  */
-negwafir_value negwafir_evaluate(const int32_t *knots, size_t knots_length,
+negwafir_value negwafir_evaluate(uint32_t s, const int32_t *knots, size_t knots_length,
                                  const int32_t *values, size_t values_length,
                                  const int32_t *slopes, size_t slopes_length,
                                  int32_t position);
@@ -297,23 +315,25 @@ negwafir_value negwafir_evaluate(const int32_t *knots, size_t knots_length,
  * PURPOSE    Tells the drive where the arm is at a count of the conveyor, and rounds nothing: on a
  *            piece without a rise to dwell at its level, on any other to move to left + numerator /
  *            denominator. The whole table is checked first, in every call.
- * ARGUMENTS  knots, values, slopes  the table.
+ * ARGUMENTS  s  the table's slope unit.
+ *            knots, values, slopes  the table.
  *            position  a count, from the first knot to the last. At an inner knot the piece that
  *            starts there answers.
  * ANSWER     the refusal, the kind (NEGWAFIR_DWELL or NEGWAFIR_MOVE) and the three floats. A move
- *            has the left value, and 256 times the width cubed as its denominator. If refused: a
+ *            has the left value, and 2^s times the width cubed as its denominator. If refused: a
  *            dwell at +0.
- * REFUSALS   1  the lists' lengths differ; place 0
- *            2  fewer than 2 or more than 1024 points; place 0
- *            3  a width is not in 1 to 1024; place: the first such piece
- *            4  a rise is outside its limits; place: the first such piece
- *            5  a piece is not monotone; place: the first such piece
- *            6  position before the first or after the last knot; place 0
- *            8  piece too large for the exact float answer: the size of its rise times its width
- *               cubed is above NEGWAFIR_EXACT; place: the position's piece
+ * REFUSALS   12  the slope unit is not in 0 to 8; place 0
+ *             1  the lists' lengths differ; place 0
+ *             2  fewer than 2 or more than 1024 points; place 0
+ *             3  a width is not in 1 to 1024; place: the first such piece
+ *             4  a rise is outside its limits; place: the first such piece
+ *             5  a piece is not monotone; place: the first such piece
+ *             6  position before the first or after the last knot; place 0
+ *             8  piece too large for the exact float answer: the size of its rise times its width
+ *                cubed is above NEGWAFIR_EXACT; place: the position's piece
  * LISTS      none is changed.
  */
-negwafir_told negwafir_float_answer(const int32_t *knots, size_t knots_length,
+negwafir_told negwafir_float_answer(uint32_t s, const int32_t *knots, size_t knots_length,
                                     const int32_t *values, size_t values_length,
                                     const int32_t *slopes, size_t slopes_length,
                                     int32_t position);
@@ -323,18 +343,20 @@ negwafir_told negwafir_float_answer(const int32_t *knots, size_t knots_length,
  *
  * PURPOSE    Says to which piece a position belongs: at an inner knot to the piece that starts there,
  *            at the last knot to the last piece. The whole table is checked first, in every call.
- * ARGUMENTS  knots, values, slopes  the table.
+ * ARGUMENTS  s  the table's slope unit.
+ *            knots, values, slopes  the table.
  *            position  a count, from the first knot to the last.
  * ANSWER     the refusal and the piece; the piece is 0 if refused.
- * REFUSALS   1  the lists' lengths differ; place 0
- *            2  fewer than 2 or more than 1024 points; place 0
- *            3  a width is not in 1 to 1024; place: the first such piece
- *            4  a rise is outside its limits; place: the first such piece
- *            5  a piece is not monotone; place: the first such piece
- *            6  position before the first or after the last knot; place 0
+ * REFUSALS   12  the slope unit is not in 0 to 8; place 0
+ *             1  the lists' lengths differ; place 0
+ *             2  fewer than 2 or more than 1024 points; place 0
+ *             3  a width is not in 1 to 1024; place: the first such piece
+ *             4  a rise is outside its limits; place: the first such piece
+ *             5  a piece is not monotone; place: the first such piece
+ *             6  position before the first or after the last knot; place 0
  * LISTS      none is changed.
  */
-negwafir_place negwafir_locate(const int32_t *knots, size_t knots_length,
+negwafir_place negwafir_locate(uint32_t s, const int32_t *knots, size_t knots_length,
                                const int32_t *values, size_t values_length,
                                const int32_t *slopes, size_t slopes_length,
                                int32_t position);
@@ -343,16 +365,18 @@ negwafir_place negwafir_locate(const int32_t *knots, size_t knots_length,
  * negwafir_judge
  *
  * PURPOSE    Judges one piece alone.
- * ARGUMENTS  h  its width.
+ * ARGUMENTS  s  the slope unit.
+ *            h  its width.
  *            z  its rise.
- *            m, n  its left and its right slope, in 1/256 of a value per count.
+ *            m, n  its left and its right slope, in 1/2^s of a value per count.
  * ANSWER     the refusal and the verdict: NEGWAFIR_RISING, NEGWAFIR_FALLING or NEGWAFIR_FLAT for a
  *            monotone piece, NEGWAFIR_BENDS for any other; NEGWAFIR_NONE if refused.
- * REFUSALS   3  a width is not in 1 to 1024; place 0
- *            4  a rise is outside its limits; place 0
+ * REFUSALS   12  the slope unit is not in 0 to 8; place 0
+ *             3  a width is not in 1 to 1024; place 0
+ *             4  a rise is outside its limits; place 0
  * LISTS      it has none.
  */
-negwafir_judgement negwafir_judge(int64_t h, int64_t z, int32_t m, int32_t n);
+negwafir_judgement negwafir_judge(uint32_t s, int64_t h, int64_t z, int32_t m, int32_t n);
 
 /* ==== Numbers ==== */
 
@@ -404,6 +428,17 @@ int64_t negwafir_floor_div(int64_t n, int64_t d);
  * LISTS      it has none.
  */
 int64_t negwafir_nearest_div(int64_t n, int64_t d);
+
+/*
+ * negwafir_unit_within
+ *
+ * PURPOSE    Says whether a table may have this slope unit.
+ * ARGUMENTS  s  a slope unit: slopes in 1/2^s of a value per count.
+ * ANSWER     true exactly if it is in 0 to 8.
+ * REFUSALS   none
+ * LISTS      it has none.
+ */
+bool negwafir_unit_within(uint32_t s);
 
 /*
  * negwafir_count_within

@@ -17,22 +17,25 @@ static const int32_t SLOPES[] = {
     INT32_MIN, -268435456, -268435455, -1025, -1024, -769, -768, -256, -1, 0, 1, 255, 256, 384, 768, 769, 1024, 1025, 268435456, INT32_MAX,
 };
 
-static void try_judge(int64_t h, int64_t z, int32_t m, int32_t n) {
-    negwafir_refusal refusal = {is_width(h) ? is_rise(z) ? 0 : 4 : 3, 0};
+static void try_judge(uint32_t s, int64_t h, int64_t z, int32_t m, int32_t n) {
+    negwafir_refusal refusal = piece_refusal(s, h, z);
     negwafir_judgement judgement;
-    calling("negwafir_judge of %" PRId64 ", %" PRId64 ", %" PRId32 ", %" PRId32, h, z, m, n);
-    judgement = negwafir_judge(h, z, m, n);
+    calling("negwafir_judge of %" PRIu32 ", %" PRId64 ", %" PRId64 ", %" PRId32 ", %" PRId32, s, h, z, m, n);
+    judgement = negwafir_judge(s, h, z, m, n);
     same_refusal(judgement.refusal, refusal);
-    same_number("the verdict", judgement.verdict, refusal.number ? NEGWAFIR_NONE : verdict_of(h, z, m, n));
+    same_number("the verdict", judgement.verdict, refusal.number ? NEGWAFIR_NONE : verdict_of(s, h, z, m, n));
     met(A_VERDICT, judgement.verdict);
 }
 
-/* Every slope with every other; where the piece is refused, whatever its slopes are, every slope with one other. */
+/* Every slope with itself, over the units in turn; and at unit 8, unless the piece is refused, whatever its slopes are, every slope with every
+ * other. */
 static void try_slopes(int64_t h, int64_t z) {
-    size_t m, n, step = is_width(h) && is_rise(z) ? 1 : COUNT(SLOPES);
-    for (m = 0; m < COUNT(SLOPES); m++)
-        for (n = step == 1 ? 0 : COUNT(SLOPES) - 1 - m; n < COUNT(SLOPES); n += step)
-            try_judge(h, z, SLOPES[m], SLOPES[n]);
+    size_t m, n, others = is_width(h) && is_rise(z) ? COUNT(SLOPES) : 0;
+    for (m = 0; m < COUNT(SLOPES); m++) {
+        try_judge((uint32_t)(m % 9), h, z, SLOPES[m], SLOPES[m]);
+        for (n = 0; n < others; n++)
+            try_judge(8, h, z, SLOPES[m], SLOPES[n]);
+    }
 }
 
 static void try_pieces(void) {
@@ -45,34 +48,56 @@ static void try_pieces(void) {
 /* The tip of the accepted region and what lies beside it, a flat piece whose slopes cancel, and one that doubles take for monotone. */
 static void try_known_pieces(void) {
     static const struct {
+        uint32_t s;
         int64_t h, z;
         int32_t m, n;
         uint32_t verdict;
     } pieces[] = {
-        {1, 1, 1024, 256, NEGWAFIR_RISING},  {1, 1, 256, 1024, NEGWAFIR_RISING},     {1, 1, 1025, 256, NEGWAFIR_BENDS},
-        {1, 1, 1024, 255, NEGWAFIR_BENDS},   {1, 1, 1024, 257, NEGWAFIR_BENDS},      {1, -1, -1024, -256, NEGWAFIR_FALLING},
-        {1, -1, -1025, -256, NEGWAFIR_BENDS}, {1, 0, 1, -1, NEGWAFIR_BENDS},         {1, 0, 0, 0, NEGWAFIR_FLAT},
-        {1, 1042998, 801022472, 801022456, NEGWAFIR_BENDS},
+        {8, 1, 1, 1024, 256, NEGWAFIR_RISING},   {8, 1, 1, 256, 1024, NEGWAFIR_RISING},      {8, 1, 1, 1025, 256, NEGWAFIR_BENDS},
+        {8, 1, 1, 1024, 255, NEGWAFIR_BENDS},    {8, 1, 1, 1024, 257, NEGWAFIR_BENDS},       {8, 1, -1, -1024, -256, NEGWAFIR_FALLING},
+        {8, 1, -1, -1025, -256, NEGWAFIR_BENDS}, {8, 1, 0, 1, -1, NEGWAFIR_BENDS},           {8, 1, 0, 0, 0, NEGWAFIR_FLAT},
+        {8, 1, 1042998, 801022472, 801022456, NEGWAFIR_BENDS},
+        {7, 1, 1, 512, 128, NEGWAFIR_RISING},    {7, 1, 1, 513, 128, NEGWAFIR_BENDS},        {7, 1, 1, 1024, 256, NEGWAFIR_BENDS},
+        {4, 1, -1, -64, -16, NEGWAFIR_FALLING},  {4, 1, -1, -64, -15, NEGWAFIR_BENDS},       {1, 1, 1, 6, 6, NEGWAFIR_RISING},
+        {0, 1, 1, 3, 3, NEGWAFIR_RISING},        {0, 1, 1, 4, 1, NEGWAFIR_RISING},           {0, 1, 1, 4, 0, NEGWAFIR_BENDS},
+        {0, 1, 1, 3, 4, NEGWAFIR_BENDS},         {0, 1, -1, -4, -1, NEGWAFIR_FALLING},       {0, 1, 0, 1, -1, NEGWAFIR_BENDS},
     };
     size_t i;
     for (i = 0; i < COUNT(pieces); i++) {
-        try_judge(pieces[i].h, pieces[i].z, pieces[i].m, pieces[i].n);
-        same_number("the verdict of rules.c", verdict_of(pieces[i].h, pieces[i].z, pieces[i].m, pieces[i].n), pieces[i].verdict);
+        try_judge(pieces[i].s, pieces[i].h, pieces[i].z, pieces[i].m, pieces[i].n);
+        same_number("the verdict of rules.c", verdict_of(pieces[i].s, pieces[i].h, pieces[i].z, pieces[i].m, pieces[i].n), pieces[i].verdict);
     }
+}
+
+static void try_unit(uint32_t s) {
+    calling("negwafir_unit_within of %" PRIu32, s);
+    same_number("the answer", negwafir_unit_within(s), is_unit(s));
+}
+
+/* With pieces that would be taken, and with such as would be refused by 3, by 4 or by both. */
+static void try_refused_unit(uint32_t s) {
+    static const int64_t widths[] = {1, 1024, 0, INT64_MAX}, rises[] = {0, 1, -1048576, 1048577, INT64_MIN};
+    size_t h, z;
+    try_unit(s);
+    for (h = 0; h < COUNT(widths); h++)
+        for (z = 0; z < COUNT(rises); z++)
+            try_judge(s, widths[h], rises[z], 0, 0);
 }
 
 /* A piece of some width whose slopes lie around the border of the accepted region, where its ellipse is. */
 static void try_border(void) {
+    uint32_t s = some_unit();
     int64_t h = 1 + (int64_t)dice(1024), z = 1 + (int64_t)dice(1048576);
-    int64_t three = 768 * z / h;
+    int64_t three = 3 * (int64_t)unit_of(s) * z / h;
     int64_t m = (int64_t)dice((uint64_t)(4 * three / 3 + 2)), n = three - (int64_t)dice(3) + 1;
     if (dice(2) == 0)
         n = (int64_t)dice((uint64_t)(4 * three / 3 + 2));
-    try_judge(h, z, (int32_t)m, (int32_t)n);
-    try_judge(h, -z, (int32_t)-m, (int32_t)-n);
+    try_judge(s, h, z, (int32_t)m, (int32_t)n);
+    try_judge(s, h, -z, (int32_t)-m, (int32_t)-n);
 }
 
 static void try_limits(int64_t x) {
+    try_unit((uint32_t)x);
     calling("negwafir_count_within of %" PRIu64, (uint64_t)x);
     same_number("the answer", negwafir_count_within((size_t)x), is_count((size_t)x));
     calling("negwafir_width_within of %" PRId64, x);
@@ -115,6 +140,9 @@ void bad_numbers(void) {
     size_t i, j, k;
     trying("pieces whose verdict is known");
     try_known_pieces();
+    trying("pieces of a unit that is refused");
+    for (i = 0; i < REFUSED_UNITS; i++)
+        try_refused_unit(refused_units[i]);
     trying("pieces of extreme numbers");
     try_pieces();
     trying("pieces at the border");

@@ -8,29 +8,32 @@
 #include <stdio.h>
 #include <string.h>
 
+static uint32_t unit; /* the table's s, taken or refused */
 static guarded knots, values, slopes;
 static arrangement where;
 static const char *what; /* what the lists hold */
 
-#define LISTS knots.list, knots.length, values.list, values.length, slopes.list, slopes.length
+/* A table, as every call takes it. */
+#define LISTS unit, knots.list, knots.length, values.list, values.length, slopes.list, slopes.length
 
 static table lists(void) {
-    table t = {knots.list, values.list, slopes.list, knots.length, values.length, slopes.length};
+    table t = {unit, knots.list, values.list, slopes.list, knots.length, values.length, slopes.length};
     return t;
 }
 
-/* What the call that follows may do with each list. */
+/* What the call that follows may do with each list. Where the unit is refused no list is needed. */
 static void allow(permission may_knots, permission may_values, permission may_slopes) {
-    guarded_allow(&knots, may_knots);
-    guarded_allow(&values, may_values);
-    guarded_allow(&slopes, may_slopes);
+    bool needed = is_unit(unit);
+    guarded_allow(&knots, needed ? may_knots : UNTOUCHED);
+    guarded_allow(&values, needed ? may_values : UNTOUCHED);
+    guarded_allow(&slopes, needed ? may_slopes : UNTOUCHED);
 }
 
 /* ---- one call: what it answers, and what it leaves in each list and around it */
 
 static void say(const char *function, const char *given) {
-    calling("%s of %zu, %zu and %zu entries, %s, the guard %s%s", function, knots.length, values.length, slopes.length, what,
-            guarded_word(where), given);
+    calling("%s of unit %" PRIu32 " and %zu, %zu and %zu entries, %s, the guard %s%s", function, unit, knots.length, values.length,
+            slopes.length, what, guarded_word(where), given);
 }
 
 static void say_at(const char *function, int32_t position) {
@@ -45,7 +48,10 @@ static void say_change(const char *function, negwafir_change change) {
     say(function, given);
 }
 
+/* Where the unit is refused none of them could be touched, and they are left so for the call that follows. */
 static void lists_as_expected(void) {
+    if (!is_unit(unit))
+        return;
     if (!guarded_same(&knots))
         wrong("the knots, or the memory around them, are not as they have to be");
     if (!guarded_same(&values))
@@ -55,7 +61,7 @@ static void lists_as_expected(void) {
 }
 
 static void expect_slope(size_t i) {
-    ((int32_t *)guarded_expected(&slopes))[i] = slope_at(guarded_expected(&knots), guarded_expected(&values), slopes.length, i);
+    ((int32_t *)guarded_expected(&slopes))[i] = slope_at(unit, guarded_expected(&knots), guarded_expected(&values), slopes.length, i);
 }
 
 static void try_points(void) {
@@ -122,6 +128,8 @@ static void try_evaluate(int32_t position) {
     same_refusal(at.refusal, expected);
     same_number("the value", at.value, expected.number ? 0 : value_at(lists(), position));
     lists_as_expected();
+    if (expected.number == 0)
+        met(A_UNIT, unit);
 }
 
 static void try_locate(int32_t position) {
@@ -171,12 +179,37 @@ static void put(guarded *g, const int32_t *entries) {
     guarded_keep(g);
 }
 
-/* They have been held to rules.c by now. */
+/* A slope at the table's unit, by what it is at unit 8: cut toward zero, as C divides. No choice in the rules depends on the unit. */
+static int32_t cut(int32_t slope) {
+    return slope / (256 >> unit);
+}
+
+/* By what they are at unit 8. They have been held to rules.c by now. */
 static void same_slopes(const int32_t *known) {
     const int32_t *list = slopes.list;
     size_t i;
     for (i = 0; i < slopes.length; i++)
-        same_number("a slope by rules.c", list[i], known[i]);
+        same_number("a slope by rules.c", list[i], cut(known[i]));
+}
+
+/* At some units by themselves, so that `cut` is held to them. */
+static void try_known_units(void) {
+    static const struct {
+        uint32_t unit;
+        int32_t slopes[3];
+    } units[] = {
+        {8, {298, 177, 42}}, {7, {149, 88, 21}}, {4, {18, 11, 2}}, {1, {2, 1, 0}}, {0, {1, 0, 0}},
+    };
+    size_t i, j;
+    for (i = 0; i < COUNT(units); i++) {
+        unit = units[i].unit;
+        lend(3);
+        put(&knots, (int32_t[]){0, 1, 3});
+        put(&values, (int32_t[]){0, 1, 2});
+        try_build();
+        for (j = 0; j < 3; j++)
+            same_number("a slope by rules.c", ((int32_t *)slopes.list)[j], units[i].slopes[j]);
+    }
 }
 
 static void try_known_slopes(void) {
@@ -208,7 +241,7 @@ static void try_three_points(const int32_t h[2], const int32_t z[2], size_t poin
     put(&knots, (int32_t[]){0, h[0], h[0] + h[1]});
     put(&values, (int32_t[]){0, z[0], z[0] + z[1]});
     try_build();
-    same_number("the end's slope by rules.c", slope_at(knots.list, values.list, 3, point), slope);
+    same_number("the end's slope by rules.c", slope_at(unit, knots.list, values.list, 3, point), cut(slope));
 }
 
 /* By the end piece h1, z1 and its neighbour h2, z2: at the first point of three, and the other way round at the last. */
@@ -271,17 +304,58 @@ static void lend_piece(int32_t h, int32_t z, int32_t m, int32_t n) {
     put(&slopes, (int32_t[]){m, n});
 }
 
-/* Less than a half above 810401, and in doubles a half. */
-static void try_known_value(void) {
-    lend_piece(1018, 927894, 7232, 669331);
-    try_at(971);
-    same_number("the value by rules.c", value_at(lists(), 971), 810401);
+static void try_known_values(void) {
+    static const struct {
+        uint32_t unit;
+        int32_t h, z, m, n, position, value;
+    } values_at[] = {
+        {8, 1018, 927894, 7232, 669331, 971, 810401}, /* less than a half above, and in doubles a half */
+        {0, 3, 25, 0, 0, 1, 6}, /* 175/27: a half of the denominator is no whole number, and 13 of 27 is below it */
+        {0, 3, -25, 0, 0, 1, -6}, /* -175/27 */
+        {0, 3, -10, -3, -3, 2, -7},
+        {0, 2, 1, 0, 0, 1, 1}, /* a half going up */
+        {0, 2, -1, 0, 0, 1, 0},
+        {3, 2, 1, 0, 2, 1, 0}, /* 7/16 */
+        {3, 2, 1, 2, 0, 1, 1}, /* 9/16 */
+    };
+    size_t i;
+    for (i = 0; i < COUNT(values_at); i++) {
+        unit = values_at[i].unit;
+        lend_piece(values_at[i].h, values_at[i].z, values_at[i].m, values_at[i].n);
+        try_at(values_at[i].position);
+        same_number("the value by rules.c", value_at(lists(), values_at[i].position), values_at[i].value);
+    }
 }
 
-static void try_known_bend(int32_t h, int32_t z, int32_t m, int32_t n) {
-    lend_piece(h, z, m, n);
-    try_check();
-    same_number("the refusal by rules.c", check_refusal(lists()).number, NEGWAFIR_BEND);
+/* The limit of the float answer is the same at every unit; the denominator is not. */
+static void try_known_sizes(void) {
+    for (unit = 0; unit <= 8; unit++) {
+        lend_piece(1024, 1025, 0, 0);
+        try_float_answer(512);
+        same_number("the refusal by rules.c", float_refusal(lists(), 512).number, NEGWAFIR_SIZE);
+        lend_piece(1024, -1024, 0, 0);
+        try_float_answer(512);
+        same_float("the denominator by rules.c", told_at(lists(), 512).denominator, 1073741824.0 * (1 << unit));
+        same_float("the numerator by rules.c", told_at(lists(), 512).numerator, -549755813888.0 * (1 << unit));
+    }
+}
+
+static void try_known_bends(void) {
+    static const struct {
+        uint32_t unit;
+        int32_t h, z, m, n;
+    } bends[] = {
+        {8, 1, 1042998, 801022472, 801022456}, {8, 1, 0, INT32_MIN, 0}, {7, 1, 1, 1024, 256},
+        {0, 1, 0, INT32_MIN, 0}, {0, 1, 1, 4, 0}, {0, 1, -1, -3, -4},
+    };
+    size_t i;
+    for (i = 0; i < COUNT(bends); i++) {
+        unit = bends[i].unit;
+        lend_piece(bends[i].h, bends[i].z, bends[i].m, bends[i].n);
+        try_check();
+        try_at(0);
+        same_number("the refusal by rules.c", check_refusal(lists()).number, NEGWAFIR_BEND);
+    }
 }
 
 /* ---- lengths: every combination of them over the three lists */
@@ -323,6 +397,16 @@ static void try_all(void) {
     try_at(6);
 }
 
+/* Every call with a unit that is refused, whatever the lists are. The table is what it was then, and can be read. */
+static void try_all_refused(uint32_t refused) {
+    uint32_t taken = unit;
+    unit = refused;
+    try_all();
+    unit = taken;
+    allow(READ_ONLY, READ_ONLY, READ_ONLY);
+}
+
+/* Every combination also with a unit that is refused: once, as what the lists hold makes no difference then. */
 static void try_lengths(bool good) {
     size_t k, v, s;
     what = good ? "a good table" : "extreme numbers";
@@ -335,8 +419,28 @@ static void try_lengths(bool good) {
                 fill(&knots, good, 3, 0);
                 fill(&values, good, 1, 5);
                 fill(&slopes, good, 0, 0);
+                if (good)
+                    try_all_refused(refused_units[(k + 2 * v + 4 * s) % REFUSED_UNITS]);
+                unit = (uint32_t)((k + v + s) % 9);
                 try_all();
             }
+}
+
+/* Lists that are not there, lists of unlike lengths, and a good table. */
+static void try_refused_units(void) {
+    static const size_t shapes[][3] = {{0, 0, 0}, {1, 1, 1}, {3, 0, 3}, {3, 3, 3}};
+    size_t i, j;
+    what = "a good table";
+    for (i = 0; i < COUNT(shapes); i++)
+        for (j = 0; j < REFUSED_UNITS; j++) {
+            guarded_lend_shape(&knots, shapes[i][0], sizeof(int32_t), where);
+            guarded_lend_shape(&values, shapes[i][1], sizeof(int32_t), where);
+            guarded_lend_shape(&slopes, shapes[i][2], sizeof(int32_t), where);
+            fill(&knots, true, 3, 0);
+            fill(&values, true, 1, 0);
+            fill(&slopes, true, 0, 0);
+            try_all_refused(refused_units[j]);
+        }
 }
 
 /* A good table whose slopes are such as no build makes: each that a change renews becomes another, and so would each that it has to leave. */
@@ -357,6 +461,7 @@ static void try_changes_of_few(void) {
     what = "a good table that is not built";
     for (points = 2; points <= 8; points++)
         for (k = 0; k < points; k++) {
+            unit = k % 2 == 0 ? 8 : (uint32_t)points - 1;
             lend_unbuilt(points);
             try_unbuilt_change(k);
         }
@@ -368,6 +473,7 @@ static void try_changes_of_many(void) {
     size_t i;
     what = "a good table that is not built";
     for (i = 0; i < COUNT(points); i++) {
+        unit = some_unit();
         lend_unbuilt(1023);
         try_unbuilt_change(points[i]);
     }
@@ -378,6 +484,7 @@ static void try_long_lengths(void) {
     static const size_t lengths[] = {2, LONGEST_IN_16_BITS, 65536 + 2, 65536 + LONGEST_IN_16_BITS};
     size_t k, v, s;
     what = "zeros";
+    unit = 8;
     for (k = 0; k < COUNT(lengths); k++)
         for (v = 0; v < COUNT(lengths); v++)
             for (s = k < 2 && v < 2 ? 2 : 0; s < COUNT(lengths); s++) {
@@ -457,7 +564,7 @@ static void lay_slopes(void) {
     for (i = 0; i < slopes.length; i++) {
         int64_t left = i < last ? (int64_t)i : (int64_t)last - 1;
         int64_t h = (int64_t)k[left + 1] - k[left], z = (int64_t)v[left + 1] - v[left];
-        int64_t secant = h > 0 ? 256 * z / h : 0;
+        int64_t secant = h > 0 ? (int64_t)unit_of(unit) * z / h : 0;
         int64_t factor = style == 0 ? 0 : style == 1 ? 3 : (int64_t)dice(5);
         int64_t slope = secant > 400000000 || secant < -400000000 ? secant : factor * secant;
         list[i] = style == 3 && dice(6) == 0 ? extreme() : (int32_t)slope;
@@ -506,9 +613,12 @@ static void try_changes(void) {
 }
 
 static void try_table(size_t points) {
+    unit = some_unit();
     lend(points);
     lay_points(points);
     lay_slopes();
+    if (dice(4) == 0)
+        try_all_refused(refused_units[dice(REFUSED_UNITS)]);
     try_points();
     try_check();
     try_positions();
@@ -524,6 +634,7 @@ static void try_table(size_t points) {
 /* Few calls: there are many lengths. */
 static void try_length(size_t points) {
     negwafir_change change = {(size_t)dice(points), 0, 0};
+    unit = points % 9;
     lend(points);
     lay_points(points);
     lay_slopes();
@@ -557,27 +668,39 @@ static void try_tables(void) {
         try_length(points);
 }
 
-void bad_tables(void) {
+void known_tables(void) {
     guarded_map(&knots);
     guarded_map(&values);
     guarded_map(&slopes);
     for (where = GUARD_BEHIND; where <= GUARD_BEFORE; where++) {
+        trying("units that are refused");
+        try_refused_units();
         what = "a table whose answer is known";
-        trying("slopes that are known");
-        try_known_slopes();
-        trying("ends that are known");
-        try_known_ends();
-        trying("changes that are known");
-        try_known_changes();
-        trying("a value that is known");
-        try_known_value();
+        trying("units that are known");
+        try_known_units();
+        for (unit = 0; unit <= 8; unit++) {
+            trying("slopes that are known");
+            try_known_slopes();
+            trying("ends that are known");
+            try_known_ends();
+            trying("changes that are known");
+            try_known_changes();
+        }
+        trying("values that are known");
+        try_known_values();
+        trying("sizes that are known");
+        try_known_sizes();
         trying("bends that are known");
-        try_known_bend(1, 1042998, 801022472, 801022456);
-        try_known_bend(1, 0, INT32_MIN, 0);
+        try_known_bends();
         trying("changes of few points");
         try_changes_of_few();
         trying("changes in a long table");
         try_changes_of_many();
+    }
+}
+
+void bad_tables(void) {
+    for (where = GUARD_BEHIND; where <= GUARD_BEFORE; where++) {
         trying("lengths that 16 bits do not hold");
         try_long_lengths();
         trying("good lists of unlike lengths");

@@ -37,12 +37,49 @@ static negwafir_refusal count_refused(void) {
     return refusal;
 }
 
-#define TABLE const int32_t *knots, size_t knots_length, const int32_t *values, size_t values_length, const int32_t *slopes, size_t slopes_length
-#define LISTS knots, knots_length, values, values_length, slopes, slopes_length
+/* ---- units */
+
+/* The unit as a call takes it, of some that are none. */
+static uint32_t unit_by_fault(uint32_t s) {
+    if (fault("unit_of_9_taken_for_8") && s == 9)
+        return 8;
+    if (fault("unit_in_5_bits"))
+        return s & 31;
+    if (fault("unit_in_6_bits"))
+        return s & 63;
+    if (fault("unit_in_8_bits"))
+        return s & 255;
+    if (fault("unit_in_16_bits"))
+        return s & 65535;
+    if (fault("unit_with_a_sign") && s > INT32_MAX)
+        return 8;
+    return s;
+}
+
+#define TABLE \
+    uint32_t s, const int32_t *knots, size_t knots_length, const int32_t *values, size_t values_length, const int32_t *slopes, size_t slopes_length
+#define LISTS s, knots, knots_length, values, values_length, slopes, slopes_length
 
 static table listed(TABLE) {
-    table t = {knots, values, slopes, knots_length, values_length, slopes_length};
+    table t = {unit_by_fault(s), knots, values, slopes, knots_length, values_length, slopes_length};
     return t;
+}
+
+/* The table of before, when every slope was in 1/256. */
+static table in_256ths(table t) {
+    t.s = 8;
+    return t;
+}
+
+/* The table of a call that never asks the unit, or asks it after the lengths: it is not refused by 12, then, or not before 1. */
+static table asked(table t, bool never, bool late) {
+    bool differ = t.knots_length != t.values_length || t.knots_length != t.slopes_length;
+    return !is_unit(t.s) && (never || (late && differ)) ? in_256ths(t) : t;
+}
+
+/* The table of a call that asks the unit, and forgets it in the check. */
+static table checked(table t, bool forgotten) {
+    return is_unit(t.s) && forgotten ? in_256ths(t) : t;
 }
 
 /* Whether the position is neither a knot nor beside one, on a piece wider than most. */
@@ -73,6 +110,11 @@ static wide half_to_even(wide n, wide d) {
     return nearest(n, d) % 2 == 0 ? nearest(n, d) : half_down(n, d);
 }
 
+/* What is added for a half is more than that where the divisor is odd. */
+static wide odd_half_rounded_up(wide n, wide d) {
+    return rounded_down(n + (d - d / 2), d);
+}
+
 /* ---- tables */
 
 /* What the lists' lengths are in fewer bits. */
@@ -84,7 +126,7 @@ static table shortened(table t, size_t mask) {
 }
 
 negwafir_refusal negwafir_points(TABLE) {
-    table t = listed(LISTS);
+    table t = asked(listed(LISTS), fault("points_of_any_unit"), fault("points_asks_the_lengths_before_the_unit"));
     if (fault("lengths_in_16_bits"))
         t = shortened(t, 65535);
     if (fault("eight_points_refused") && knots_length == 8)
@@ -108,14 +150,21 @@ negwafir_refusal negwafir_points(TABLE) {
     return build_refusal(t);
 }
 
-/* The accepted region beyond its triangle, for a piece of width 1 that rises. */
-static bool ellipse_in_doubles(double z, double m, double n) {
-    double over = m + n - 768 * z;
-    return z > 0 && over > 0 && m <= 1024 * z && n <= 1024 * z && over * over <= m * n;
+/* The accepted region beyond its triangle, for a piece of width 1 that rises by Z. */
+static bool ellipse_in_doubles(double Z, double m, double n) {
+    double over = m + n - 3 * Z;
+    return Z > 0 && over > 0 && m <= 4 * Z && n <= 4 * Z && over * over <= m * n;
 }
 
 negwafir_refusal negwafir_check(TABLE) {
-    negwafir_refusal refusal = check_refusal(listed(LISTS));
+    table t = asked(listed(LISTS), fault("check_of_any_unit"), fault("check_asks_the_lengths_before_the_unit"));
+    negwafir_refusal refusal = check_refusal(checked(t, fault("bend_asked_in_256ths")));
+    if (fault("check_of_a_refused_unit_reads_a_knot") && !is_unit(s) && knots_length > 0)
+        seen = knots[0];
+    if (fault("unit_refused_at_its_number") && refusal.number == NEGWAFIR_SLOPE_UNIT)
+        refusal.place = s;
+    if (fault("unit_refused_by_11") && refusal.number == NEGWAFIR_SLOPE_UNIT)
+        refusal.number = 11;
     if (fault("place_always_0"))
         refusal.place = 0;
     if (fault("bend_missed_between_many_points") && knots_length > 7 && knots_length < 1023 && refusal.number == NEGWAFIR_BEND)
@@ -123,7 +172,7 @@ negwafir_refusal negwafir_check(TABLE) {
     if (fault("check_puts_a_slope_back") && slopes_length > 0)
         put_back(slopes);
     if (fault("bend_asked_in_doubles") && knots_length == 2 && refusal.number == NEGWAFIR_BEND && knots[1] - knots[0] == 1
-        && ellipse_in_doubles(values[1] - values[0], slopes[0], slopes[1]))
+        && ellipse_in_doubles((double)unit_of(s) * (values[1] - values[0]), slopes[0], slopes[1]))
         refusal.number = 0;
     if (fault("place_one_too_far") && refusal.number == NEGWAFIR_BEND)
         refusal.place++;
@@ -138,28 +187,28 @@ negwafir_refusal negwafir_check(TABLE) {
 
 /* ---- slopes, and the calls that write them */
 
-static int32_t inner_in_doubles(double h1, double z1, double h2, double z2) {
+static int32_t inner_in_doubles(double unit, double h1, double z1, double h2, double z2) {
     double left = 2 * h2 + h1, right = h2 + 2 * h1;
-    return (int32_t)(256 * (left + right) / (left * h1 / z1 + right * h2 / z2));
+    return (int32_t)(unit * (left + right) / (left * h1 / z1 + right * h2 / z2));
 }
 
 /* The rule for an end as the public routine PCHIM works it out. */
-static int32_t end_in_doubles(double h1, double z1, double h2, double z2) {
+static int32_t end_in_doubles(double unit, double h1, double z1, double h2, double z2) {
     double secant = z1 / h1, next = z2 / h2, both = h1 + h2;
     double slope = (h1 + both) / both * secant - h1 / both * next;
     if (slope * secant <= 0)
         return 0;
-    return (int32_t)(256 * (secant * next < 0 && (slope - 3 * secant) * secant > 0 ? 3 * secant : slope));
+    return (int32_t)(unit * (secant * next < 0 && (slope - 3 * secant) * secant > 0 ? 3 * secant : slope));
 }
 
 /* The rule in its parts: whether the slope is 0, whether the bound is taken, what is taken then, and what otherwise. */
-static bool is_zero_by_fault(table_end e) {
+static bool is_zero_by_fault(wide unit, table_end e) {
     if (fault("end_of_a_level_piece_not_0") && e.z1 == 0)
         return false;
     if (fault("end_that_opposes_its_piece"))
         return e.z1 == 0;
     if (fault("end_opposed_by_a_product_of_64_bits"))
-        return (int64_t)(256 * (uint64_t)e.above * (uint64_t)e.z1) <= 0;
+        return (int64_t)((uint64_t)unit * (uint64_t)e.above * (uint64_t)e.z1) <= 0;
     if (fault("end_0_between_opposite_rises") && e.z1 * e.z2 < 0)
         return true;
     return is_zero_or_opposed(e);
@@ -173,71 +222,89 @@ static bool is_bound_by_fault(table_end e) {
     return is_beyond_the_bound(e);
 }
 
-static wide in_units_by_fault(wide above, wide below) {
+static wide in_units_by_fault(wide unit, wide above, wide below) {
     if (fault("end_rounded_down"))
-        return rounded_down(256 * above, below);
+        return rounded_down(unit * above, below);
     if (fault("end_rounded_to_the_nearest"))
-        return nearest(256 * above, below);
+        return nearest(unit * above, below);
     if (fault("end_rounded_before_the_unit"))
-        return 256 * (above / below);
-    return 256 * above / below;
+        return unit * (above / below);
+    return unit * above / below;
 }
 
-static wide bound_by_fault(table_end e) {
+static wide bound_by_fault(wide unit, table_end e) {
     if (fault("end_bound_of_a_rounded_secant"))
-        return 3 * (256 * e.z1 / e.h1);
+        return 3 * (unit * e.z1 / e.h1);
     if (fault("end_bound_rounded_before_the_unit"))
-        return 256 * (3 * e.z1 / e.h1);
+        return unit * (3 * e.z1 / e.h1);
     if (fault("end_bound_without_its_sign"))
-        return 256 * 3 * size_of(e.z1) / e.h1;
-    return in_units_by_fault(3 * e.z1, e.h1);
+        return unit * 3 * size_of(e.z1) / e.h1;
+    if (fault("end_bound_of_768"))
+        return 768 * e.z1 / e.h1;
+    return in_units_by_fault(unit, 3 * e.z1, e.h1);
 }
 
-static wide quotient_by_fault(table_end e) {
+static wide quotient_by_fault(wide unit, table_end e) {
     if (fault("end_of_rounded_secants"))
-        return ((2 * e.h1 + e.h2) * (256 * e.z1 / e.h1) - e.h1 * (256 * e.z2 / e.h2)) / (e.h1 + e.h2);
+        return ((2 * e.h1 + e.h2) * (unit * e.z1 / e.h1) - e.h1 * (unit * e.z2 / e.h2)) / (e.h1 + e.h2);
     if (fault("end_divided_by_32_bits"))
-        return 256 * e.above / (int32_t)e.below;
-    return in_units_by_fault(e.above, e.below);
+        return unit * e.above / (int32_t)e.below;
+    if (fault("end_quotient_of_256"))
+        return 256 * e.above / e.below;
+    return in_units_by_fault(unit, e.above, e.below);
 }
 
-static int32_t end_by_fault(table_end e) {
+static int32_t end_by_fault(wide unit, table_end e) {
     if (fault("end_slopes_in_doubles"))
-        return end_in_doubles((double)e.h1, (double)e.z1, (double)e.h2, (double)e.z2);
-    if (is_zero_by_fault(e))
+        return end_in_doubles((double)unit, (double)e.h1, (double)e.z1, (double)e.h2, (double)e.z2);
+    if (is_zero_by_fault(unit, e))
         return 0;
-    return (int32_t)(is_bound_by_fault(e) ? bound_by_fault(e) : quotient_by_fault(e));
+    return (int32_t)(is_bound_by_fault(e) ? bound_by_fault(unit, e) : quotient_by_fault(unit, e));
 }
 
 /* As of the piece's two points alone. */
-static int32_t secant_of(const int32_t *knots, const int32_t *values, size_t piece) {
-    return slope_at(knots + piece, values + piece, 2, 0);
+static int32_t secant_of(uint32_t s, const int32_t *knots, const int32_t *values, size_t piece) {
+    return slope_at(s, knots + piece, values + piece, 2, 0);
 }
 
-static int32_t last_by_fault(const int32_t *knots, const int32_t *values, size_t last) {
+static int32_t last_by_fault(wide unit, const int32_t *knots, const int32_t *values, size_t last) {
     if (fault("last_end_read_left_to_right"))
-        return end_by_fault(end_at(knots, values, last - 2, last - 1));
+        return end_by_fault(unit, end_at(knots, values, last - 2, last - 1));
     if (fault("last_end_with_its_widths_swapped")) {
         int32_t swapped[] = {knots[last - 2], knots[last - 2] + (knots[last] - knots[last - 1]), knots[last]};
-        return end_by_fault(end_at(swapped, values + last - 2, 1, 0));
+        return end_by_fault(unit, end_at(swapped, values + last - 2, 1, 0));
     }
-    return end_by_fault(end_at(knots, values, last - 1, last - 2));
+    return end_by_fault(unit, end_at(knots, values, last - 1, last - 2));
 }
 
-static int32_t slope_by_fault(const int32_t *knots, const int32_t *values, size_t points, size_t i) {
+static int32_t end_point_by_fault(uint32_t s, const int32_t *knots, const int32_t *values, size_t points, size_t i) {
     size_t last = points - 1;
-    if (fault("end_rule_at_two_points") && points == 2)
-        return end_by_fault(end_at(knots, values, 0, 1));
-    if (points == 2 || (i > 0 && i < last))
-        return slope_at(knots, values, points, i);
     if (fault("ends_by_the_secant") || (fault("ends_of_three_points_by_the_secant") && points == 3))
-        return secant_of(knots, values, i == 0 ? 0 : last - 1);
-    return i == 0 ? end_by_fault(end_at(knots, values, 0, 1)) : last_by_fault(knots, values, last);
+        return secant_of(s, knots, values, i == 0 ? 0 : last - 1);
+    return i == 0 ? end_by_fault(unit_of(s), end_at(knots, values, 0, 1)) : last_by_fault(unit_of(s), knots, values, last);
 }
 
-negwafir_refusal negwafir_build(const int32_t *knots, size_t knots_length, const int32_t *values, size_t values_length, int32_t *slopes, size_t slopes_length) {
-    negwafir_refusal refusal = build_refusal(listed(LISTS));
+/* A slope in 1/256 that is cut toward zero is the one in the unit; cut by floor it is another where it falls. */
+static int32_t slope_by_fault(uint32_t s, const int32_t *knots, const int32_t *values, size_t points, size_t i) {
+    bool is_end = i == 0 || i + 1 == points;
+    if (fault("slopes_built_in_256ths_and_cut_by_floor"))
+        return (int32_t)rounded_down(slope_at(8, knots, values, points, i), 256 / unit_of(s));
+    if (points == 2 && fault("end_rule_at_two_points"))
+        return end_by_fault(unit_of(s), end_at(knots, values, 0, 1));
+    if (points == 2)
+        return slope_at(fault("secant_of_256") ? 8 : s, knots, values, points, i);
+    if (is_end)
+        return end_point_by_fault(s, knots, values, points, i);
+    return slope_at(fault("mean_of_768") ? 8 : s, knots, values, points, i);
+}
+
+negwafir_refusal negwafir_build(uint32_t s, const int32_t *knots, size_t knots_length, const int32_t *values, size_t values_length, int32_t *slopes,
+                                size_t slopes_length) {
+    table t = asked(listed(LISTS), fault("build_of_any_unit"), fault("build_asks_the_lengths_before_the_unit"));
+    negwafir_refusal refusal = build_refusal(t);
     size_t i, end = fault("last_slope_left") ? slopes_length - 1 : slopes_length;
+    if (fault("build_of_a_refused_unit_writes_a_slope") && refusal.number == NEGWAFIR_SLOPE_UNIT && slopes_length > 0)
+        slopes[0] = 0;
     if (fault("build_writes_before_it_refuses") && slopes_length > 0)
         slopes[0] = 0;
     if (fault("refused_build_puts_a_slope_back") && refusal.number && slopes_length > 0)
@@ -246,14 +313,14 @@ negwafir_refusal negwafir_build(const int32_t *knots, size_t knots_length, const
         seen = slopes[0];
     if (fault("build_puts_a_value_back") && values_length > 0)
         put_back(values);
-    if (refusal.number || (fault("built_only_where_a_piece_bends") && check_refusal(listed(LISTS)).number == 0))
+    if (refusal.number || (fault("built_only_where_a_piece_bends") && check_refusal(t).number == 0))
         return refusal;
     for (i = 0; i < end; i++)
-        slopes[i] = slope_by_fault(knots, values, slopes_length, i);
+        slopes[i] = slope_by_fault(t.s, knots, values, slopes_length, i);
     if (fault("slopes_left_between_many_points") && slopes_length > 7 && slopes_length < 1023)
         slopes[slopes_length / 3] ^= 1;
     if (fault("inner_slopes_in_doubles") && slopes_length == 3 && slopes[1] > 0)
-        slopes[1] = inner_in_doubles(knots[1] - knots[0], values[1] - values[0], knots[2] - knots[1], values[2] - values[1]);
+        slopes[1] = inner_in_doubles((double)unit_of(t.s), knots[1] - knots[0], values[1] - values[0], knots[2] - knots[1], values[2] - values[1]);
     if (fault("a_slope_behind_the_last"))
         slopes[slopes_length] = 0;
     if (fault("build_writes_a_value"))
@@ -261,8 +328,18 @@ negwafir_refusal negwafir_build(const int32_t *knots, size_t knots_length, const
     return refusal;
 }
 
+/* The refusal of a change that asks for the point before the unit. */
+static negwafir_refusal point_asked_first(table t, negwafir_change change, negwafir_refusal refusal) {
+    if (refusal.number == NEGWAFIR_SLOPE_UNIT && change.point >= t.knots_length)
+        refusal.number = NEGWAFIR_POINT;
+    return refusal;
+}
+
 negwafir_refusal negwafir_changed_points(TABLE, negwafir_change change) {
-    negwafir_refusal refusal = change_refusal(listed(LISTS), change);
+    table t = asked(listed(LISTS), fault("changed_points_of_any_unit"), fault("changed_points_asks_the_lengths_before_the_unit"));
+    negwafir_refusal refusal = change_refusal(t, change);
+    if (fault("changed_points_asks_the_point_before_the_unit"))
+        refusal = point_asked_first(t, change, refusal);
     if (fault("asked_and_changed") && refusal.number == 0)
         ((int32_t *)values)[change.point] = change.value ^ 1;
     if (fault("asked_change_reads_the_slopes") && slopes_length > 0)
@@ -302,24 +379,29 @@ static bool is_added_by_fault(size_t points, size_t changed, size_t i) {
     return false;
 }
 
-static int32_t renewed_by_fault(const int32_t *knots, const int32_t *values, size_t points, size_t i) {
+static int32_t renewed_by_fault(uint32_t s, const int32_t *knots, const int32_t *values, size_t points, size_t i) {
     if (fault("changed_ends_by_the_secant") && (i == 0 || i + 1 == points))
-        return secant_of(knots, values, i == 0 ? 0 : i - 1);
-    return slope_by_fault(knots, values, points, i);
+        return secant_of(s, knots, values, i == 0 ? 0 : i - 1);
+    return slope_by_fault(fault("renewed_in_256ths") ? 8 : s, knots, values, points, i);
 }
 
 /* The slopes that a change renews are one range. Where its end is compared with points - 3, that wraps if there are 2 points, and a change of
  * the last of them renews a slope behind it. */
-static void renew_by_fault(const int32_t *knots, const int32_t *values, int32_t *slopes, size_t points, size_t changed) {
+static void renew_by_fault(uint32_t s, const int32_t *knots, const int32_t *values, int32_t *slopes, size_t points, size_t changed) {
     size_t i, end = fault("slopes_renewed_up_to_a_wrapped_end") && changed < points - 3 ? changed + 2 : points;
     for (i = 0; i < end; i++)
         if (is_renewed(points, changed, i) ? !is_left_by_fault(points, changed, i) : is_added_by_fault(points, changed, i))
-            slopes[i] = renewed_by_fault(knots, values, points, i);
+            slopes[i] = renewed_by_fault(s, knots, values, points, i);
 }
 
-negwafir_refusal negwafir_change_point(int32_t *knots, size_t knots_length, int32_t *values, size_t values_length, int32_t *slopes, size_t slopes_length,
-                                       negwafir_change change) {
-    negwafir_refusal refusal = change_refusal(listed(LISTS), change);
+negwafir_refusal negwafir_change_point(uint32_t s, int32_t *knots, size_t knots_length, int32_t *values, size_t values_length, int32_t *slopes,
+                                       size_t slopes_length, negwafir_change change) {
+    table t = asked(listed(LISTS), fault("change_of_any_unit"), fault("change_asks_the_lengths_before_the_unit"));
+    negwafir_refusal refusal = change_refusal(t, change);
+    if (fault("change_asks_the_point_before_the_unit"))
+        refusal = point_asked_first(t, change, refusal);
+    if (fault("change_of_a_refused_unit_writes_a_knot") && refusal.number == NEGWAFIR_SLOPE_UNIT && change.point < knots_length)
+        knots[change.point] = change.knot;
     if (fault("changed_though_refused") && refusal.number == NEGWAFIR_WIDTH)
         knots[change.point] = change.knot;
     if (fault("refused_change_puts_a_knot_back") && refusal.number == NEGWAFIR_WIDTH)
@@ -334,17 +416,19 @@ negwafir_refusal negwafir_change_point(int32_t *knots, size_t knots_length, int3
         return refusal;
     knots[change.point] = change.knot;
     values[change.point] = change.value;
-    renew_by_fault(knots, values, slopes, slopes_length, change.point);
+    renew_by_fault(t.s, knots, values, slopes, slopes_length, change.point);
     return refusal;
 }
 
 /* ---- positions and pieces */
 
 negwafir_place negwafir_locate(TABLE, int32_t position) {
-    table t = listed(LISTS);
-    negwafir_place place = {evaluation_refusal(t, position), 0};
+    table t = asked(listed(LISTS), fault("locate_of_any_unit"), fault("locate_asks_the_lengths_before_the_unit"));
+    negwafir_place place = {evaluation_refusal(checked(t, fault("locate_checks_in_256ths")), position), 0};
     if (place.refusal.number == 0)
         place.piece = piece_at(t, position);
+    if (fault("a_piece_where_the_unit_is_refused") && place.refusal.number == NEGWAFIR_SLOPE_UNIT)
+        place.piece = 1;
     if (fault("first_piece_well_inside") && place.refusal.number == 0 && is_well_inside(t, position))
         place.piece = 0;
     if (fault("locate_puts_a_knot_back") && knots_length > 0)
@@ -366,15 +450,20 @@ static int32_t straight(table t, int32_t position) {
 static int32_t value_in_doubles(table t, int32_t position) {
     size_t i = piece_at(t, position);
     double h = t.knots[i + 1] - t.knots[i], z = t.values[i + 1] - t.values[i], x = (position - t.knots[i]) / h;
-    double a = t.slopes[i] * h / 256, b = t.slopes[i + 1] * h / 256;
+    double a = t.slopes[i] * h / (double)unit_of(t.s), b = t.slopes[i + 1] * h / (double)unit_of(t.s);
     return t.values[i] + (int32_t)(((a + b - 2 * z) * x + (3 * z - 2 * a - b)) * x * x + a * x + 0.5);
 }
 
 /* The left value and the quotient, rounded in some way. */
 static int32_t value_by(wide round(wide n, wide d), table t, int32_t position) {
     size_t i = piece_at(t, position);
-    wide below = denominator_on(t, i), above = curve_on(t, i, position) - t.values[i] * below;
-    return (int32_t)(t.values[i] + round(above, below));
+    return (int32_t)(t.values[i] + round(risen_on(t, i, position), denominator_on(t, i)));
+}
+
+/* The unit in the rise or in the denominator, and the 256 of before in the other. */
+static int32_t value_over(table above, table below, int32_t position) {
+    size_t i = piece_at(above, position);
+    return (int32_t)(above.values[i] + nearest(risen_on(above, i, position), denominator_on(below, i)));
 }
 
 static int32_t value_by_another_rounding(table t, int32_t position) {
@@ -391,6 +480,8 @@ static int32_t value_by_another_rounding(table t, int32_t position) {
         return value_by(half_down, t, position);
     if (fault("value_half_to_even"))
         return value_by(half_to_even, t, position);
+    if (fault("value_odd_half_rounded_up"))
+        return value_by(odd_half_rounded_up, t, position);
     if (fault("fall_as_the_mirror_of_the_rise") && t.values[i + 1] < t.values[i])
         return value_by(half_down, t, position);
     return value_at(t, position);
@@ -400,6 +491,10 @@ static int32_t value_by_another_rounding(table t, int32_t position) {
 static int32_t value_by_fault(table t, int32_t position) {
     if (fault("straight_well_inside") && is_well_inside(t, position))
         return straight(t, position);
+    if (fault("value_over_256_cubes"))
+        return value_over(t, in_256ths(t), position);
+    if (fault("value_of_256_rises"))
+        return value_over(in_256ths(t), t, position);
     if (fault("left_value_between_many_points") && t.knots_length > 7 && t.knots_length < 1023)
         return t.values[piece_at(t, position)];
     if (fault("value_in_doubles") && t.knots_length == 2 && t.values[1] > t.values[0] && t.values[0] == 0)
@@ -412,8 +507,8 @@ static int32_t value_by_fault(table t, int32_t position) {
 }
 
 negwafir_value negwafir_evaluate(TABLE, int32_t position) {
-    table t = listed(LISTS);
-    negwafir_value at = {evaluation_refusal(t, position), 0};
+    table t = asked(listed(LISTS), fault("evaluate_of_any_unit"), fault("evaluate_asks_the_lengths_before_the_unit"));
+    negwafir_value at = {evaluation_refusal(checked(t, fault("evaluate_checks_in_256ths")), position), 0};
     if (at.refusal.number == 0)
         at.value = value_by_fault(t, position);
     if (fault("evaluate_puts_a_value_back") && values_length > 0)
@@ -424,18 +519,44 @@ negwafir_value negwafir_evaluate(TABLE, int32_t position) {
     }
     if (fault("a_value_where_refused") && at.refusal.number == NEGWAFIR_POSITION)
         at.value = values[0] ^ 1;
+    if (fault("a_value_where_the_unit_is_refused") && at.refusal.number == NEGWAFIR_SLOPE_UNIT)
+        at.value = 1;
     if (fault("value_one_too_high") && at.refusal.number == 0 && at.value < -1)
         at.value++;
     return at;
 }
 
+/* The limit scaled by the unit: asked of the rise in units, whose size times the width cubed has to be within 2^bits. */
+static negwafir_refusal float_refusal_in_units(table t, int32_t position, unsigned bits) {
+    negwafir_refusal refusal = evaluation_refusal(t, position), large = {NEGWAFIR_SIZE, 0};
+    size_t i;
+    if (refusal.number)
+        return refusal;
+    large.place = i = piece_at(t, position);
+    return size_of((wide)t.values[i + 1] - t.values[i]) * denominator_on(t, i) > (wide)1 << bits ? large : refusal;
+}
+
+static negwafir_refusal float_refusal_by_fault(table t, int32_t position) {
+    if (fault("float_limit_of_2_40_units"))
+        return float_refusal_in_units(t, position, 40);
+    if (fault("float_limit_of_2_48_units"))
+        return float_refusal_in_units(t, position, 48);
+    return float_refusal(checked(t, fault("float_answer_checks_in_256ths")), position);
+}
+
 negwafir_told negwafir_float_answer(TABLE, int32_t position) {
-    table t = listed(LISTS);
+    table t = asked(listed(LISTS), fault("float_answer_of_any_unit"), fault("float_answer_asks_the_lengths_before_the_unit"));
     negwafir_told told = {{0, 0}, NEGWAFIR_DWELL, 0, 0, 1};
-    negwafir_refusal refusal = float_refusal(t, position);
+    negwafir_refusal refusal = float_refusal_by_fault(t, position);
     if (refusal.number == 0)
         told = told_at(t, position);
     told.refusal = refusal;
+    if (fault("move_over_256_cubes") && told.kind == NEGWAFIR_MOVE)
+        told.denominator = (double)denominator_on(in_256ths(t), piece_at(t, position));
+    if (fault("move_of_256_rises") && told.kind == NEGWAFIR_MOVE)
+        told.numerator = (double)risen_on(in_256ths(t), piece_at(t, position), position);
+    if (fault("a_level_where_the_unit_is_refused") && refusal.number == NEGWAFIR_SLOPE_UNIT)
+        told.left = 1;
     if (fault("minus_zero") && told.kind == NEGWAFIR_MOVE && told.numerator == 0)
         told.numerator = -0.0;
     if (fault("refusal_at_minus_zero") && refusal.number)
@@ -452,32 +573,47 @@ negwafir_told negwafir_float_answer(TABLE, int32_t position) {
 }
 
 /* Verdicts that are wrong at the tips of the accepted region, or beside them, and nowhere else. */
-static uint32_t verdict_by_fault(uint32_t verdict, int64_t h, int64_t z, int32_t m, int32_t n) {
-    if (fault("rising_tip_bends") && verdict == NEGWAFIR_RISING && m * h >= 1024 * z)
+static uint32_t verdict_by_fault(uint32_t s, int64_t h, int64_t z, int32_t m, int32_t n) {
+    uint32_t verdict = verdict_of(fault("verdict_in_256ths") ? 8 : s, h, z, m, n);
+    int64_t unit = (int64_t)unit_of(s), steepest = 4 * unit * z;
+    if (fault("rising_tip_bends") && verdict == NEGWAFIR_RISING && m * h >= steepest)
         return NEGWAFIR_BENDS;
-    if (fault("falling_tip_bends") && verdict == NEGWAFIR_FALLING && n * h <= 1024 * z)
+    if (fault("falling_tip_bends") && verdict == NEGWAFIR_FALLING && n * h <= steepest)
         return NEGWAFIR_BENDS;
-    if (fault("taken_beside_the_tip") && h == 1 && z == 1 && m == 1025 && n == 256)
+    if (fault("taken_beside_the_tip") && s == 8 && h == 1 && z == 1 && m == 1025 && n == 256)
         return NEGWAFIR_RISING;
-    if (fault("taken_below_the_tip") && h == 1 && z == 1 && m == 1024 && n == 255)
+    if (fault("taken_below_the_tip") && s == 8 && h == 1 && z == 1 && m == 1024 && n == 255)
         return NEGWAFIR_RISING;
+    if (fault("the_papers_less") && s == 8 && h == 1 && z == 1 && m == 768 && n == 768)
+        return NEGWAFIR_BENDS;
     if (fault("flat_if_the_slopes_cancel") && z == 0 && m + (int64_t)n == 0)
         return NEGWAFIR_FLAT;
-    if (fault("ellipse_in_doubles") && verdict == NEGWAFIR_BENDS && h == 1 && ellipse_in_doubles((double)z, m, n))
+    if (fault("ellipse_in_doubles") && verdict == NEGWAFIR_BENDS && h == 1 && ellipse_in_doubles((double)(unit * z), m, n))
         return NEGWAFIR_RISING;
     return verdict;
 }
 
-negwafir_judgement negwafir_judge(int64_t h, int64_t z, int32_t m, int32_t n) {
-    negwafir_judgement judgement = {{is_width(h) ? is_rise(z) ? 0 : NEGWAFIR_RISE : NEGWAFIR_WIDTH, 0}, NEGWAFIR_NONE};
-    if (fault("rise_asked_first") && !is_rise(z))
-        judgement.refusal.number = NEGWAFIR_RISE;
+/* The causes of a piece in other orders. */
+static negwafir_refusal piece_refusal_by_fault(uint32_t s, int64_t h, int64_t z) {
+    negwafir_refusal refusal = piece_refusal(s, h, z);
+    if (fault("rise_asked_first") && is_unit(s) && !is_rise(z))
+        refusal.number = NEGWAFIR_RISE;
+    if (fault("judge_of_any_unit") && !is_unit(s))
+        return piece_refusal(8, h, z);
+    if (fault("judge_asks_the_width_before_the_unit") && !is_width(h))
+        refusal.number = NEGWAFIR_WIDTH;
+    if (fault("judge_asks_the_rise_before_the_unit") && is_width(h) && !is_rise(z))
+        refusal.number = NEGWAFIR_RISE;
+    return refusal;
+}
+
+negwafir_judgement negwafir_judge(uint32_t s, int64_t h, int64_t z, int32_t m, int32_t n) {
+    uint32_t unit = unit_by_fault(s);
+    negwafir_judgement judgement = {piece_refusal_by_fault(unit, h, z), NEGWAFIR_NONE};
     if (judgement.refusal.number == 0)
-        judgement.verdict = verdict_of(h, z, m, n);
-    if (fault("the_papers_less") && h == 1 && z == 1 && m == 768 && n == 768)
-        judgement.verdict = NEGWAFIR_BENDS;
-    if (judgement.refusal.number == 0)
-        judgement.verdict = verdict_by_fault(judgement.verdict, h, z, m, n);
+        judgement.verdict = verdict_by_fault(is_unit(unit) ? unit : 8, h, z, m, n);
+    if (fault("a_verdict_where_the_unit_is_refused") && judgement.refusal.number == NEGWAFIR_SLOPE_UNIT)
+        judgement.verdict = NEGWAFIR_FLAT;
     return judgement;
 }
 
@@ -519,12 +655,26 @@ int64_t negwafir_nearest_div(int64_t n, int64_t d) {
     if (fault("half_to_even"))
         return (int64_t)half_to_even(n, d);
     if (fault("odd_half_rounded_up"))
-        return (int64_t)rounded_down((wide)n + (d - d / 2), d);
+        return (int64_t)odd_half_rounded_up(n, d);
     if (fault("sum_with_the_half_wraps"))
         return (int64_t)rounded_down((int64_t)((uint64_t)n + (uint64_t)(d / 2)), d);
     if (fault("one_too_few_from_2_62_on") && n >= INT64_C(4611686018427387904))
         return (int64_t)nearest(n, d) - 1;
     return (int64_t)nearest(n, d);
+}
+
+bool negwafir_unit_within(uint32_t s) {
+    if (fault("unit_within_takes_9") && s == 9)
+        return true;
+    if (fault("unit_within_refuses_8") && s == 8)
+        return false;
+    if (fault("unit_within_refuses_0") && s == 0)
+        return false;
+    if (fault("unit_within_in_8_bits"))
+        return is_unit(s & 255);
+    if (fault("unit_within_with_a_sign") && s > INT32_MAX)
+        return true;
+    return is_unit(s);
 }
 
 bool negwafir_count_within(size_t n) {

@@ -2,5 +2,5 @@
 #include <negwafir.h>
 
 int main() {
-    return negwafir_check(nullptr, 0, nullptr, 0, nullptr, 0).number == NEGWAFIR_COUNT ? 0 : 1;
+    return negwafir_check(NEGWAFIR_MOST_UNIT, nullptr, 0, nullptr, 0, nullptr, 0).number == NEGWAFIR_COUNT ? 0 : 1;
 }

@@ -2,8 +2,6 @@
 
 #include <string.h>
 
-static const wide UNIT = 256;
-
 static negwafir_refusal refused(uint32_t number, size_t place) {
     negwafir_refusal refusal = {number, place};
     return refusal;
@@ -11,6 +9,14 @@ static negwafir_refusal refused(uint32_t number, size_t place) {
 
 static wide step(const int32_t *list, size_t i) {
     return (wide)list[i + 1] - list[i];
+}
+
+bool is_unit(uint32_t s) {
+    return s <= 8;
+}
+
+wide unit_of(uint32_t s) {
+    return (wide)1 << s;
 }
 
 bool is_count(size_t n) {
@@ -41,7 +47,17 @@ wide nearest(wide n, wide d) {
 
 /* ---- refusals */
 
-static negwafir_refusal length_refusal(table t) {
+negwafir_refusal piece_refusal(uint32_t s, wide h, wide z) {
+    if (!is_unit(s))
+        return refused(12, 0);
+    if (!is_width(h))
+        return refused(3, 0);
+    return is_rise(z) ? refused(0, 0) : refused(4, 0);
+}
+
+static negwafir_refusal outline_refusal(table t) {
+    if (!is_unit(t.s))
+        return refused(12, 0);
     if (t.knots_length != t.values_length || t.knots_length != t.slopes_length)
         return refused(1, 0);
     return is_count(t.knots_length) ? refused(0, 0) : refused(2, 0);
@@ -59,7 +75,7 @@ static negwafir_refusal point_refusal(const int32_t *knots, const int32_t *value
 }
 
 negwafir_refusal build_refusal(table t) {
-    negwafir_refusal refusal = length_refusal(t);
+    negwafir_refusal refusal = outline_refusal(t);
     return refusal.number ? refusal : point_refusal(t.knots, t.values, t.knots_length);
 }
 
@@ -69,14 +85,14 @@ negwafir_refusal check_refusal(table t) {
     if (refusal.number)
         return refusal;
     for (i = 0; i + 1 < t.knots_length; i++)
-        if (verdict_of(step(t.knots, i), step(t.values, i), t.slopes[i], t.slopes[i + 1]) == NEGWAFIR_BENDS)
+        if (verdict_of(t.s, step(t.knots, i), step(t.values, i), t.slopes[i], t.slopes[i + 1]) == NEGWAFIR_BENDS)
             return refused(5, i);
     return refused(0, 0);
 }
 
 negwafir_refusal change_refusal(table t, negwafir_change change) {
     int32_t knots[1024], values[1024];
-    negwafir_refusal refusal = length_refusal(t);
+    negwafir_refusal refusal = outline_refusal(t);
     if (refusal.number)
         return refusal;
     if (change.point >= t.knots_length)
@@ -118,8 +134,8 @@ static bool never_negative(wide Z, wide a, wide b) {
     return !(0 < -half && -half < square) || a * square >= half * half;
 }
 
-uint32_t verdict_of(wide h, wide z, wide m, wide n) {
-    wide Z = UNIT * z, a = m * h, b = n * h;
+uint32_t verdict_of(uint32_t s, wide h, wide z, wide m, wide n) {
+    wide Z = unit_of(s) * z, a = m * h, b = n * h;
     if (z > 0)
         return never_negative(Z, a, b) ? NEGWAFIR_RISING : NEGWAFIR_BENDS;
     if (z < 0)
@@ -134,8 +150,8 @@ static bool are_opposed(wide x, wide y) {
 }
 
 /* C divides toward zero. */
-static int32_t in_units(wide above, wide below) {
-    return (int32_t)(UNIT * above / below);
+static int32_t in_units(uint32_t s, wide above, wide below) {
+    return (int32_t)(unit_of(s) * above / below);
 }
 
 table_end end_at(const int32_t *knots, const int32_t *values, size_t piece, size_t neighbour) {
@@ -153,30 +169,30 @@ bool is_beyond_the_bound(table_end e) {
     return are_opposed(e.z1, e.z2) && size_of(e.above) * e.h1 > 3 * size_of(e.z1) * e.below;
 }
 
-static int32_t end_slope(table_end e) {
+static int32_t end_slope(uint32_t s, table_end e) {
     if (is_zero_or_opposed(e))
         return 0;
-    return is_beyond_the_bound(e) ? in_units(3 * e.z1, e.h1) : in_units(e.above, e.below);
+    return is_beyond_the_bound(e) ? in_units(s, 3 * e.z1, e.h1) : in_units(s, e.above, e.below);
 }
 
-static int32_t inner_slope(wide h1, wide z1, wide h2, wide z2) {
+static int32_t inner_slope(uint32_t s, wide h1, wide z1, wide h2, wide z2) {
     wide above, below;
     if (z1 == 0 || z2 == 0 || (z1 < 0) != (z2 < 0))
         return 0;
-    above = 768 * (h1 + h2) * size_of(z1) * size_of(z2);
+    above = 3 * (h1 + h2) * size_of(z1) * size_of(z2);
     below = (h1 + 2 * h2) * h1 * size_of(z2) + (2 * h1 + h2) * h2 * size_of(z1);
-    return (int32_t)(z1 < 0 ? -(above / below) : above / below);
+    return in_units(s, z1 < 0 ? -above : above, below);
 }
 
-int32_t slope_at(const int32_t *knots, const int32_t *values, size_t points, size_t point) {
+int32_t slope_at(uint32_t s, const int32_t *knots, const int32_t *values, size_t points, size_t point) {
     size_t left = point - 1;
     if (points == 2)
-        return in_units(step(values, 0), step(knots, 0));
+        return in_units(s, step(values, 0), step(knots, 0));
     if (point == 0)
-        return end_slope(end_at(knots, values, 0, 1));
+        return end_slope(s, end_at(knots, values, 0, 1));
     if (point == points - 1)
-        return end_slope(end_at(knots, values, left, left - 1));
-    return inner_slope(step(knots, left), step(values, left), step(knots, point), step(values, point));
+        return end_slope(s, end_at(knots, values, left, left - 1));
+    return inner_slope(s, step(knots, left), step(values, left), step(knots, point), step(values, point));
 }
 
 bool is_renewed(size_t points, size_t changed, size_t point) {
@@ -196,13 +212,17 @@ size_t piece_at(table t, int32_t position) {
 
 wide denominator_on(table t, size_t i) {
     wide h = step(t.knots, i);
-    return UNIT * h * h * h;
+    return unit_of(t.s) * h * h * h;
 }
 
 wide curve_on(table t, size_t i, int32_t position) {
-    wide h = step(t.knots, i), x = (wide)position - t.knots[i], rest = h - x;
-    return UNIT * t.values[i] * (h + 2 * x) * rest * rest + UNIT * t.values[i + 1] * (3 * h - 2 * x) * x * x
+    wide h = step(t.knots, i), x = (wide)position - t.knots[i], rest = h - x, unit = unit_of(t.s);
+    return unit * t.values[i] * (h + 2 * x) * rest * rest + unit * t.values[i + 1] * (3 * h - 2 * x) * x * x
         + (wide)t.slopes[i] * h * x * rest * rest - (wide)t.slopes[i + 1] * h * rest * x * x;
+}
+
+wide risen_on(table t, size_t i, int32_t position) {
+    return curve_on(t, i, position) - t.values[i] * denominator_on(t, i);
 }
 
 int32_t value_at(table t, int32_t position) {
@@ -216,7 +236,7 @@ negwafir_told told_at(table t, int32_t position) {
     told.left = (double)t.values[i];
     if (step(t.values, i) != 0) {
         told.kind = NEGWAFIR_MOVE;
-        told.numerator = (double)(int64_t)(curve_on(t, i, position) - t.values[i] * denominator_on(t, i));
+        told.numerator = (double)(int64_t)risen_on(t, i, position);
         told.denominator = (double)(int64_t)denominator_on(t, i);
     }
     return told;

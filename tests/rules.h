@@ -9,12 +9,15 @@
 
 __extension__ typedef __int128 wide;
 
+/* Its slopes are in 1/2^s. */
 typedef struct {
+    uint32_t s;
     const int32_t *knots, *values, *slopes;
     size_t knots_length, values_length, slopes_length;
 } table;
 
-/* Why a call is refused, or 0 at place 0. */
+/* Why a call is refused, or 0 at place 0. No list is read where its unit, the lengths or the number of points refuse it. */
+negwafir_refusal piece_refusal(uint32_t s, wide h, wide z);
 negwafir_refusal build_refusal(table t);
 negwafir_refusal check_refusal(table t);
 negwafir_refusal change_refusal(table t, negwafir_change change);
@@ -25,8 +28,8 @@ negwafir_refusal float_refusal(table t, int32_t position);
 size_t piece_at(table t, int32_t position);
 int32_t value_at(table t, int32_t position);
 negwafir_told told_at(table t, int32_t position);
-int32_t slope_at(const int32_t *knots, const int32_t *values, size_t points, size_t point);
-uint32_t verdict_of(wide h, wide z, wide m, wide n);
+int32_t slope_at(uint32_t s, const int32_t *knots, const int32_t *values, size_t points, size_t point);
+uint32_t verdict_of(uint32_t s, wide h, wide z, wide m, wide n);
 
 /* Whether a change of one point renews the slope of another, or its own: those beside it, slope 0 if it is point 2, and the last slope if
  * it is the third point from the end. */
@@ -45,10 +48,15 @@ table_end end_at(const int32_t *knots, const int32_t *values, size_t piece, size
 bool is_zero_or_opposed(table_end e);
 bool is_beyond_the_bound(table_end e);
 
-/* The curve at a position of piece i, times its denominator, which is 256 times the width cubed. */
+/* The curve at a position of piece i, and what it has risen by since the left knot, times the denominator, which is 2^s times the width cubed. */
 wide curve_on(table t, size_t i, int32_t position);
+wide risen_on(table t, size_t i, int32_t position);
 wide denominator_on(table t, size_t i);
 
+/* 2^s, for an s that is a unit. */
+wide unit_of(uint32_t s);
+
+bool is_unit(uint32_t s);
 bool is_count(size_t n);
 bool is_width(wide h);
 bool is_rise(wide z);

@@ -11,8 +11,8 @@
 #include <string.h>
 #include <unistd.h>
 
-#define REFUSALS 9
-#define MOST_CASES 5
+#define REFUSALS (NEGWAFIR_SLOPE_UNIT + 1) /* 9 to 11 are none */
+#define MOST_CASES 9
 
 static char call[256] = "before the first call";
 static unsigned long calls, refusals, refused_by[REFUSALS], refused_further[REFUSALS], met_case[CASES][MOST_CASES];
@@ -20,7 +20,7 @@ static unsigned long calls, refusals, refused_by[REFUSALS], refused_further[REFU
 static const struct {
     const char *name;
     unsigned count;
-} families[CASES] = {{"verdict", 5}, {"kind of float answer", 2}, {"kind of number", 3}};
+} families[CASES] = {{"verdict", 5}, {"kind of float answer", 2}, {"kind of number", 3}, {"a value at unit", 9}};
 
 /* What has to be tried, and by how many calls at least: a tenth below the present number, so that none can be left out or cut down unseen. */
 typedef struct {
@@ -29,19 +29,20 @@ typedef struct {
 } tried;
 
 static tried functions[] = {
-    {"negwafir_points", 4401, 0},
-    {"negwafir_build", 4482, 0},
-    {"negwafir_check", 11759, 0},
-    {"negwafir_changed_points", 74473, 0},
-    {"negwafir_change_point", 74473, 0},
-    {"negwafir_evaluate", 33460, 0},
-    {"negwafir_float_answer", 33460, 0},
-    {"negwafir_locate", 33460, 0},
-    {"negwafir_judge", 100053, 0},
-    {"negwafir_difference", 1622, 0},
+    {"negwafir_points", 5422, 0},
+    {"negwafir_build", 6160, 0},
+    {"negwafir_check", 12788, 0},
+    {"negwafir_changed_points", 77580, 0},
+    {"negwafir_change_point", 77580, 0},
+    {"negwafir_evaluate", 36622, 0},
+    {"negwafir_float_answer", 36655, 0},
+    {"negwafir_locate", 36622, 0},
+    {"negwafir_judge", 103969, 0},
+    {"negwafir_difference", 1593, 0},
     {"negwafir_between", 42187, 0},
     {"negwafir_floor_div", 4702, 0},
     {"negwafir_nearest_div", 4702, 0},
+    {"negwafir_unit_within", 4564, 0},
     {"negwafir_count_within", 4555, 0},
     {"negwafir_width_within", 4555, 0},
     {"negwafir_rise_within", 4555, 0},
@@ -59,12 +60,13 @@ static tried functions[] = {
 };
 
 static tried kinds[] = {
-    {"pieces whose verdict is known", 9, 0},
-    {"pieces of extreme numbers", 92844, 0},
+    {"pieces whose verdict is known", 19, 0},
+    {"pieces of a unit that is refused", 189, 0},
+    {"pieces of extreme numbers", 96570, 0},
     {"pieces at the border", 7200, 0},
-    {"some numbers", 22566, 0},
-    {"every number up to the most points", 2772, 0},
-    {"extreme numbers", 94, 0},
+    {"some numbers", 26137, 0},
+    {"every number up to the most points", 3697, 0},
+    {"extreme numbers", 126, 0},
     {"extreme numbers with others", 41448, 0},
     {"lines of one byte over and over", 11469, 0},
     {"lines of every length", 13062, 0},
@@ -74,19 +76,22 @@ static tried kinds[] = {
     {"digits around the limits of lengths", 75, 0},
     {"buffers of every length", 32472, 0},
     {"buffers around the limits of lengths", 5544, 0},
-    {"small tables", 195520, 0},
-    {"the largest tables", 6553, 0},
-    {"tables between them", 19680, 0},
-    {"tables of every number of points", 23922, 0},
-    {"slopes that are known", 14, 0},
-    {"ends that are known", 61, 0},
-    {"changes that are known", 16, 0},
-    {"a value that is known", 5, 0},
-    {"bends that are known", 3, 0},
+    {"small tables", 201044, 0},
+    {"the largest tables", 6683, 0},
+    {"tables between them", 20214, 0},
+    {"tables of every number of points", 23935, 0},
+    {"units that are refused", 1296, 0},
+    {"units that are known", 9, 0},
+    {"slopes that are known", 129, 0},
+    {"ends that are known", 550, 0},
+    {"changes that are known", 145, 0},
+    {"values that are known", 43, 0},
+    {"sizes that are known", 32, 0},
+    {"bends that are known", 43, 0},
     {"changes of few points", 126, 0},
     {"changes in a long table", 25, 0},
     {"lengths that 16 bits do not hold", 1814, 0},
-    {"good lists of unlike lengths", 11113, 0},
+    {"good lists of unlike lengths", 22226, 0},
     {"extreme lists of unlike lengths", 11113, 0},
 };
 
@@ -168,6 +173,10 @@ void tally_begin(void) {
     }
 }
 
+static bool is_a_refusal(unsigned number) {
+    return number <= NEGWAFIR_SIZE || number == NEGWAFIR_SLOPE_UNIT;
+}
+
 /* These are a piece's, and have been met at one further on. */
 static bool is_of_a_piece(unsigned number) {
     return number == NEGWAFIR_WIDTH || number == NEGWAFIR_RISE || number == NEGWAFIR_BEND || number == NEGWAFIR_SIZE;
@@ -184,7 +193,7 @@ void tally_end(void) {
     unsigned number, which;
     strcpy(call, "after the last call");
     for (number = 0; number < REFUSALS; number++)
-        if (refused_by[number] == 0)
+        if (is_a_refusal(number) && refused_by[number] == 0)
             wrong("no call was answered by refusal %u", number);
         else if (is_of_a_piece(number) && refused_further[number] == 0)
             wrong("no call was answered by refusal %u at a place above 0", number);

@@ -18,8 +18,8 @@ void same_refusal(negwafir_refusal answered, negwafir_refusal expected);
 void same_number(const char *what, int64_t answered, int64_t expected);
 void same_float(const char *what, double answered, double expected);
 
-/* A case that some call has to meet: a verdict, or a kind of answer. */
-typedef enum { A_VERDICT, A_TOLD, A_READ, CASES } family;
+/* A case that some call has to meet: a verdict, a kind of answer, or the unit of a table that has a value. */
+typedef enum { A_VERDICT, A_TOLD, A_READ, A_UNIT, CASES } family;
 void met(family which, uint32_t number);
 
 /* From here on a call that touches what it may not touch is said and ends the run. */

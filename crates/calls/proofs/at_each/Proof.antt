@@ -6,10 +6,10 @@ use Rattle.calls.proofs.at_each.Statement.{statement}
 use Rattle.calls.proofs.at_each.Tie as tie
 
 abbrev Inv-loop : tie.InvT-loop
-Inv-loop knots values slopes positions i₀ i = i ≤ length positions
+Inv-loop s knots values slopes positions i₀ i = i ≤ length positions
 
 abbrev μ-loop : tie.MeasureT-loop
-μ-loop knots values slopes positions i₀ i = length positions - i
+μ-loop s knots values slopes positions i₀ i = length positions - i
 
 loop-holds : tie.Need-loop-holds Inv-loop μ-loop
 loop-holds c = search needs
