@@ -32,3 +32,4 @@ pub mod WrongReplies
 pub mod WrongTables
 pub mod WrongText
 pub mod WrongTies
+pub mod WrongUnits

@@ -1,38 +1,42 @@
 -- Wrong programs that break the first demand, each ours but for what is said of it. Between quotation marks are the words in which document 01 names it.
 use mathlib.Core.Path.{_≡_, refl, ap}
 use mathlib.Core.List.{List, [], _∷_}
-use Prim.Native.Nat.{ℕ, zero, suc, _+_, _<_}
+use Prim.Native.Nat.{ℕ, zero, suc, _+_, _^_, _<_, min}
 use native.Mathlib.Omega.{arith}
 use lib.Dec.{lit<}
-use lib.IntN.{ℤ, pos, negsuc}
-use lib.Signed.{leZ-yes, ltZ-yes}
+use lib.IntN.{ℤ, pos, negsuc, _*ℤ_}
+use lib.Signed.{_<ℤ_, leZ-yes, ltZ-yes}
 use lib.ListN.{length, set}
 use mir.Val.{SFits, toZ, ofZ}
 use mir.Syntax.{w32}
+use Rattle.integers.specs.Promise.{magnitude}
 use Rattle.cubic.specs.Monotone.{monotone-rising}
 use Rattle.cubic.specs.Test.{line, short-accepts}
-use Rattle.rules.specs.Limits.{UnitWithin, CountWithin, WidthWithin}
+use Rattle.rules.specs.Limits.{unit, UnitWithin, CountWithin, WidthWithin}
 use Rattle.rules.specs.Refusals.{Given, done, refused, passed}
-use Rattle.rules.specs.Order.{one-given, stopped, went-on}
+use Rattle.rules.specs.Order.{Same, one-more-cause, carried, one-given, stopped, went-on}
 use Rattle.table.specs.declared.changed.Change.{Change}
-use Rattle.table.specs.Table.{Table, table, entry, step, SameLengths, Holds, width-outside, rise-outside, not-monotone, buildOrder, checkOrder}
+use Rattle.table.specs.Table.{Table, table, entry, step, SameLengths, Holds, no-such-unit, lengths-differ, width-outside, rise-outside, not-monotone, buildOrder, checkOrder}
 use Rattle.table.specs.Accepted.{points-accepted, unit-passes, same-length-passes, count-passes, accepted-table}
 use Rattle.table.specs.Tested.{points-by-test}
 use Rattle.table.specs.WouldBe.{changedBy, HoldsAfter, changeOrder}
-use Rattle.piece.specs.Promise.{none}
-use Rattle.position.specs.Position.{Belongs, inside, HoldsAt, evaluationOrder}
+use Rattle.piece.specs.declared.Verdict.the-variants.{Rising}
+use Rattle.piece.specs.Promise.{rising, none, monotone}
+use Rattle.position.specs.Position.{Belongs, inside, HoldsAt, of-table, evaluationOrder}
+use Rattle.position.specs.Pieces.{within-list}
 use Rattle.position.specs.Refused.{as-checked, taken-inside}
 use Rattle.change.specs.Figures.{point-1-moved-onto-point-2}
 use Rattle.curve.specs.Curve.{Evaluated}
-use Rattle.drive.specs.Drive.{resting}
+use Rattle.drive.specs.Drive.{resting, floatOrder}
 use Rattle.drive.specs.Refused.{as-evaluated, refused-large}
+use Rattle.demands.specs.Demands
 use Rattle.demands.specs.Demands.{Call, judge, points, build, check, locate, evaluate, float-answer, changed-points, point, Outcome, opposite-ends, LooksAt, its-points, a-value, Demand1}
 use Rattle.demands.specs.Ours.{May}
 use Rattle.demands.specs.Met.{width-taken}
 use Rattle.demands.specs.Shown.{by-a-build, by-a-check}
 use Rattle.demands.specs.SixteenGiven.{eighth, count, has-value}
-use Rattle.demands.specs.Refuting.{within, the-point-is-there, not-outside, numbers-differ}
-use Rattle.demands.specs.Programs.{outcome, answering, another-judge, another-points, another-build, another-check, another-locate, another-evaluate, another-float-answer, another-changed-points, another-point, its-cause, its-refusal, two, two-built, four, four-within, lowering}
+use Rattle.demands.specs.Refuting.{within, below-the-line, the-point-is-there, not-outside, numbers-differ}
+use Rattle.demands.specs.Programs.{outcome, answering, another-judge, another-points, another-build, another-check, another-locate, another-evaluate, another-float-answer, another-changed-points, another-point, its-cause, its-refusal, two, two-within, two-built, four, four-within, lowering}
 
 -- ======== "Any points, slopes, positions and edits may come in, from any list of any length."
 
@@ -179,6 +183,82 @@ no-piece-too-large d =
       its-refusal d (float-answer large (pos 0)) (outcome 0 0 resting tt) evaluated (omega arith)
           (went-on refl (as-evaluated evaluated) (refused-large (accepted-table refl large-passes) (inside {i = 0} (lit< tt) (leZ-yes tt) (ltZ-yes tt)) (record { above = ltZ-yes tt }))) .0,
     ))
+
+-- ======== "A larger s is refusal 12, place 0, asked first." (document 02, request 8)
+
+-- two points and no values, in the unit 9
+abbrev nine : Table
+nine = table 9 (pos 0 ∷ pos 1 ∷ []) [] (pos 0 ∷ pos 0 ∷ [])
+
+above-8 : UnitWithin 9 → ⊥
+above-8 u = omega (arith, u .high)
+
+-- 12 is asked after 1
+pub the-unit-asked-after-the-lengths : Demand1 (answering (another-points (λ t o. Given (Holds t) (1 ∷ 12 ∷ 2 ∷ 3 ∷ 4 ∷ []) (o .number) (o .place)))) → ⊥
+the-unit-asked-after-the-lengths d =
+    absurd (omega (
+      arith,
+      its-refusal d (points nine) (outcome 1 0 tt tt) (refused (lengths-differ (λ s. omega (arith, s .values))) (λ q l. absurd (omega (arith, l)))) (omega arith) (refused (no-such-unit above-8) (λ q l. absurd (omega (arith, l)))) .0,
+    ))
+
+-- a unit above 8 is taken for 8
+abbrev pub at-most-8 : Table → Table
+at-most-8 t = table (min (t .s) 8) (t .knots) (t .values) (t .slopes)
+
+pub nine-taken-for-eight : Demand1 (answering (another-points (λ t o. Given (Holds (at-most-8 t)) buildOrder (o .number) (o .place)))) → ⊥
+nine-taken-for-eight d =
+    absurd (omega (
+      arith,
+      its-refusal d (points (table 9 (two .knots) (two .values) (two .slopes))) (outcome 0 0 tt tt) (points-accepted eighth two-within refl) (omega arith) (refused (no-such-unit above-8) (λ q l. absurd (omega (arith, l)))) .0,
+    ))
+
+-- a verdict on a piece that is not asked for its unit: it is that in 1/256 where s is above 8
+pub a-piece-in-any-unit : Demand1 (answering (another-judge (λ s h z m n o. May (judge (min s 8) h z m n) (outcome (o .number) (o .place) (o .answer) tt)))) → ⊥
+a-piece-in-any-unit d =
+    absurd (omega (
+      arith,
+      its-refusal d (judge 9 (pos 1) (pos 1) (pos 256) (pos 256)) (outcome 0 0 rising tt)
+          (record { verdict = Rising; says = refl; promised = monotone eighth (within tt tt) (within tt tt) (below-the-line tt tt tt tt) }) (omega arith) (refused (Demands.no-such-unit above-8) (λ q l. absurd (omega (arith, l)))) .0,
+    ))
+
+-- the limit of the float answer in units: at s = 0 a piece of width 1,024 and rise 1,025 is then answered, which is "refused by 8 exactly if |z|·h³ > 2^40"
+pub data HoldsInUnits (t : Table) (x : ℤ) : ℕ → ℕ → Type 0 where
+  another-cause : {c i : ℕ} → HoldsAt t x c i → HoldsInUnits t x c i
+  too-large-in-units : {i : ℕ} → Belongs (t .knots) x i → pos (2 ^ 48) <ℤ (unit (t .s) *ℤ (magnitude (step (t .values) i) *ℤ (step (t .knots) i *ℤ step (t .knots) i *ℤ step (t .knots) i))) → HoldsInUnits t x 8 i
+
+pub the-limit-of-the-float-answer-in-units : Demand1 (answering (another-float-answer (λ t x o. Given (HoldsInUnits t x) floatOrder (o .number) (o .place)))) → ⊥
+the-limit-of-the-float-answer-in-units d =
+    let evaluated : Given (HoldsAt whole (pos 0)) evaluationOrder 0 0 = went-on refl (as-checked whole-passes) (taken-inside (within tt tt)) in
+    absurd (omega (
+      arith,
+      its-refusal d (float-answer whole (pos 0)) (outcome 0 0 resting tt) (went-on refl (carried beside-8 evaluated) (passed small done)) (omega arith)
+          (went-on refl (as-evaluated evaluated) (refused-large (accepted-table refl whole-passes) in-piece-0 (record { above = ltZ-yes tt }))) .0,
+    ))
+  where
+    whole : Table
+    whole = table 0 (pos 0 ∷ pos 1024 ∷ []) (pos 0 ∷ pos 1025 ∷ []) (pos 0 ∷ pos 0 ∷ [])
+
+    in-piece-0 : Belongs (whole .knots) (pos 0) 0
+    in-piece-0 = inside {i = 0} (lit< tt) (leZ-yes tt) (ltZ-yes tt)
+
+    whole-passes : Given (Holds whole) checkOrder 0 0
+    whole-passes = went-on refl (points-accepted (record { high = omega arith }) (points-by-test _ _ refl (count tt tt) tt) refl) (passed no-bend done)
+      where
+        no-bend : (i : ℕ) → Holds whole 5 i → ⊥
+        no-bend zero (not-monotone l f) = f (below-the-line tt tt tt tt)
+        no-bend (suc i) (not-monotone l f) = absurd (omega (arith, l))
+
+    of-the-position : (c p : ℕ) → (c ≡ 8 → ⊥) → HoldsInUnits whole (pos 0) c p → HoldsAt whole (pos 0) c p
+    of-the-position c p f (another-cause h) = h
+    of-the-position c p f (too-large-in-units b l) = absurd (f refl)
+
+    beside-8 : Same (HoldsAt whole (pos 0)) (HoldsInUnits whole (pos 0)) evaluationOrder
+    beside-8 = one-more-cause 8 evaluationOrder (λ _ _. another-cause) of-the-position tt
+
+    small : (p : ℕ) → HoldsInUnits whole (pos 0) 8 p → ⊥
+    small p (another-cause (of-table h)) = elim h [ ]
+    small zero (too-large-in-units b l) = l .lt
+    small (suc p) (too-large-in-units b l) = absurd (omega (arith, within-list b))
 
 -- ======== "nothing is computed from a wrapped number"
 

@@ -187,7 +187,7 @@ abbrev pub rounded-by : ((n d : ℤ) → ℤ) → (U left h z m n t : ℤ) → �
 rounded-by round U left h z m n t = left +ℤ round (numerator U h z m n t) (denominator U h)
 
 -- in the first piece of a table such a program is to answer what ours does
-the-same : (value : (U left h z m n t : ℤ) → ℤ) → Demand2 (answering (valued-by value)) → {s : ℕ} {ks vs ss : List ℤ} {x v : ℤ} → UnitWithin s → PointsWithin ks vs → Belongs ks x 0 → Evaluated (table s ks vs ss) x 0 0 v
+pub the-same : (value : (U left h z m n t : ℤ) → ℤ) → Demand2 (answering (valued-by value)) → {s : ℕ} {ks vs ss : List ℤ} {x v : ℤ} → UnitWithin s → PointsWithin ks vs → Belongs ks x 0 → Evaluated (table s ks vs ss) x 0 0 v
     → value (unit s) (entry vs 0) (step ks 0) (step vs 0) (entry ss 0) (entry ss 1) (x -ℤ entry ks 0) ≡ v
 the-same value d {s} {ks} {vs} {ss} {x} u p i e =
     let w = value (unit s) (entry vs 0) (step ks 0) (step vs 0) (entry ss 0) (entry ss 1) (x -ℤ entry ks 0) in

@@ -74,7 +74,7 @@ the-rule-at-the-last-end-is-ours t =
 
 -- of three points it is to leave what ours does, in any unit
 module _ {s : ℕ} (u : UnitWithin s) (slope : (U h₁ z₁ h₂ z₂ : ℤ) → ℤ) (x₀ x₁ x₂ v₀ v₁ v₂ : ℤ) (p : PointsWithin (x₀ ∷ x₁ ∷ x₂ ∷ []) (v₀ ∷ v₁ ∷ v₂ ∷ [])) where
-  the-first : Demand2 (answering (at-the-first slope)) → slope (unit s) (x₁ -ℤ x₀) (v₁ -ℤ v₀) (x₂ -ℤ x₁) (v₂ -ℤ v₁) ≡ endSlope (unit s) (x₁ -ℤ x₀) (v₁ -ℤ v₀) (x₂ -ℤ x₁) (v₂ -ℤ v₁)
+  pub the-first : Demand2 (answering (at-the-first slope)) → slope (unit s) (x₁ -ℤ x₀) (v₁ -ℤ v₀) (x₂ -ℤ x₁) (v₂ -ℤ v₁) ≡ endSlope (unit s) (x₁ -ℤ x₀) (v₁ -ℤ v₀) (x₂ -ℤ x₁) (v₂ -ℤ v₁)
   the-first d =
       let U = 0<-unit (unit-size u) in
       let h = 0<-width (p .widths 0 (lit< tt)) in
@@ -89,14 +89,14 @@ module _ {s : ℕ} (u : UnitWithin s) (slope : (U h₁ z₁ h₂ z₂ : ℤ) →
       one-end k h (left d (table s (x₀ ∷ x₁ ∷ x₂ ∷ []) (v₀ ∷ v₁ ∷ v₂ ∷ []) (pos 0 ∷ pos 0 ∷ pos 0 ∷ [])) u p refl .each 2 (lit< tt) .last 0 refl refl) (end-rule _ _ U k h)
 
 -- the rule, with what it asks and answers left open
-abbrev by-cases : (opposed beyond : Bool) (bound quotient : ℤ) → ℤ
+abbrev pub by-cases : (opposed beyond : Bool) (bound quotient : ℤ) → ℤ
 by-cases opposed beyond bound quotient = cond opposed (pos 0) (cond beyond bound quotient)
 
 -- the bound, as a fraction over h1, and the quotient
-abbrev bound : (U h₁ z₁ : ℤ) → ℤ
+abbrev pub bound : (U h₁ z₁ : ℤ) → ℤ
 bound U h₁ z₁ = inUnits U (withSign z₁ (pos 3 *ℤ magnitude z₁)) h₁
 
-abbrev quotient : (U h₁ z₁ h₂ z₂ : ℤ) → ℤ
+abbrev pub quotient : (U h₁ z₁ h₂ z₂ : ℤ) → ℤ
 quotient U h₁ z₁ h₂ z₂ = inUnits U (endAbove h₁ z₁ h₂ z₂) (endBelow h₁ h₂)
 
 -- the rule that document 01 had: (0,0), (1,1), (2,4) then begin with 256, and not with 0; and end with 768, and not with 1024
@@ -154,7 +154,15 @@ without-a-bound U h₁ z₁ h₂ z₂ = by-cases (zeroOrOpposed h₁ z₁ h₂ z
 pub no-bound : Demand2 (answering (at-the-first without-a-bound)) → ⊥
 no-bound d = numbers-differ tt (the-first eighth without-a-bound (pos 0) (pos 2) (pos 3) (pos 0) (negsuc 0) (pos 1) (points-by-test _ _ refl (count tt tt) tt) d)
 
--- both sides compared as whole numbers, before the unit: (0,0), (1,1), (2,−3) then begin with 896, and not with 768
+-- the bound taken only beyond four secants, and not beyond three: (0,0), (1,1), (2,−3) then begin with 896, and not with 768
+abbrev pub beyond-four : (U h₁ z₁ h₂ z₂ : ℤ) → ℤ
+beyond-four U h₁ z₁ h₂ z₂ =
+    by-cases (zeroOrOpposed h₁ z₁ h₂ z₂) (ltZ (z₁ *ℤ z₂) (pos 0) && ltZ (pos 4 *ℤ magnitude z₁ *ℤ endBelow h₁ h₂) (magnitude (endAbove h₁ z₁ h₂ z₂) *ℤ h₁)) (bound U h₁ z₁) (quotient U h₁ z₁ h₂ z₂)
+
+pub a-bound-beyond-four-secants : Demand2 (answering (at-the-first beyond-four)) → ⊥
+a-bound-beyond-four-secants d = numbers-differ tt (the-first eighth beyond-four (pos 0) (pos 1) (pos 2) (pos 0) (pos 1) (negsuc 2) (points-by-test _ _ refl (count tt tt) tt) d)
+
+-- both sides compared as whole numbers, before the unit: the same points then begin with 896
 abbrev pub compared-whole : (U h₁ z₁ h₂ z₂ : ℤ) → ℤ
 compared-whole U h₁ z₁ h₂ z₂ =
     by-cases (zeroOrOpposed h₁ z₁ h₂ z₂) (ltZ (z₁ *ℤ z₂) (pos 0) && ltZ (floorOf (pos 3 *ℤ magnitude z₁) h₁) (floorOf (magnitude (endAbove h₁ z₁ h₂ z₂)) (endBelow h₁ h₂))) (bound U h₁ z₁) (quotient U h₁ z₁ h₂ z₂)
