@@ -4,7 +4,8 @@ use mathlib.Core.Bool.{Bool, true, false, not, _&&_, cond}
 use mathlib.Core.List.{List, [], _∷_}
 use mathlib.Core.Logic.{_⊎_, inl, inr, ⊎-elim}
 use Prim.Native.Nat.{ℕ, suc, _+_, _<_}
-use lib.Dec.{T, T-not, leb, ltb, eqb, eqb-refl, eqb→eq, lit<, lit≤}
+use native.Mathlib.Omega.{arith}
+use lib.Dec.{T, T-not, leb, ltb, ltb→lt, eqb, eqb-refl, eqb→eq, lit<, lit≤}
 use lib.IntN.{ℤ, pos, negsuc, _*ℤ_}
 use lib.Signed.{_≤ℤ_, leZ, ltZ, leZ-yes, ltZ-yes}
 use lib.ListN.{length}
@@ -13,10 +14,10 @@ use Rattle.cubic.specs.Piece.{slopeAt, Monotone}
 use Rattle.cubic.specs.Slope.{over}
 use Rattle.cubic.specs.Test.{line, oval, short-accepts}
 use Rattle.cubic.specs.Monotone.{monotone-rising}
-use Rattle.rules.specs.Limits.{WidthWithin, RiseWithin}
+use Rattle.rules.specs.Limits.{UnitWithin, WidthWithin, RiseWithin}
 use Rattle.rules.specs.Refusals.{Given, done, refused, passed, Answered, nothing}
 use Rattle.table.specs.declared.changed.Change.{Change}
-use Rattle.table.specs.Table.{Table, pointCount, entry, step, MonotoneAt, Holds, width-outside, rise-outside, not-monotone}
+use Rattle.table.specs.Table.{Table, pointCount, entry, step, MonotoneAt, Holds, no-such-unit, width-outside, rise-outside, not-monotone}
 use Rattle.table.specs.WouldBe.{changedBy, HoldsAfter, of-points, no-such-point}
 use Rattle.position.specs.Position.{Belongs, inside, WithinKnots, HoldsAt, of-table, position-outside}
 
@@ -55,7 +56,13 @@ module _ {H : ℕ → ℕ → Type 0} where
   so-it-holds (refused h e) = h
   so-it-holds (passed f g) = so-it-holds g
 
--- causes that hold of figures: a width below 1, a rise above its limit, a slope against a rise at the fraction k/q of the width
+-- causes that hold of figures: a unit above 8, a width below 1, a rise above its limit, a slope against a rise at the fraction k/q of the width
+pub above-8 : {s : ℕ} → T (ltb 8 s) → UnitWithin s → ⊥
+above-8 {s} l u = omega (arith, ltb→lt 8 s l, u .high)
+
+pub no-unit : {t : Table} → T (ltb 8 (t .s)) → Holds t 12 0
+no-unit l = no-such-unit (above-8 l)
+
 pub too-narrow : {t : Table} {i : ℕ} → T (ltb (i + 1) (pointCount t)) → T (not (leZ (pos 1) (step (t .knots) i))) → Holds t 3 i
 too-narrow l f = width-outside (lit< l) (λ w. above f (w .low))
 

@@ -16,7 +16,7 @@ use Rattle.rules.specs.Limits.{unit, UnitWithin, CountWithin, WidthWithin}
 use Rattle.rules.specs.Refusals.{Given, done, refused, passed}
 use Rattle.rules.specs.Order.{Same, one-more-cause, carried, one-given, stopped, went-on}
 use Rattle.table.specs.declared.changed.Change.{Change}
-use Rattle.table.specs.Table.{Table, table, entry, step, SameLengths, Holds, no-such-unit, lengths-differ, width-outside, rise-outside, not-monotone, buildOrder, checkOrder}
+use Rattle.table.specs.Table.{Table, table, entry, step, SameLengths, Holds, lengths-differ, width-outside, rise-outside, not-monotone, buildOrder, checkOrder}
 use Rattle.table.specs.Accepted.{points-accepted, unit-passes, same-length-passes, count-passes, accepted-table}
 use Rattle.table.specs.Tested.{points-by-test}
 use Rattle.table.specs.WouldBe.{changedBy, HoldsAfter, changeOrder}
@@ -35,7 +35,7 @@ use Rattle.demands.specs.Ours.{May}
 use Rattle.demands.specs.Met.{width-taken}
 use Rattle.demands.specs.Shown.{by-a-build, by-a-check}
 use Rattle.demands.specs.SixteenGiven.{eighth, count, has-value}
-use Rattle.demands.specs.Refuting.{within, below-the-line, the-point-is-there, not-outside, numbers-differ}
+use Rattle.demands.specs.Refuting.{within, above-8, no-unit, below-the-line, the-point-is-there, not-outside, numbers-differ}
 use Rattle.demands.specs.Programs.{outcome, answering, another-judge, another-points, another-build, another-check, another-locate, another-evaluate, another-float-answer, another-changed-points, another-point, its-cause, its-refusal, two, two-within, two-built, four, four-within, lowering}
 
 -- ======== "Any points, slopes, positions and edits may come in, from any list of any length."
@@ -190,15 +190,12 @@ no-piece-too-large d =
 abbrev nine : Table
 nine = table 9 (pos 0 ∷ pos 1 ∷ []) [] (pos 0 ∷ pos 0 ∷ [])
 
-above-8 : UnitWithin 9 → ⊥
-above-8 u = omega (arith, u .high)
-
 -- 12 is asked after 1
 pub the-unit-asked-after-the-lengths : Demand1 (answering (another-points (λ t o. Given (Holds t) (1 ∷ 12 ∷ 2 ∷ 3 ∷ 4 ∷ []) (o .number) (o .place)))) → ⊥
 the-unit-asked-after-the-lengths d =
     absurd (omega (
       arith,
-      its-refusal d (points nine) (outcome 1 0 tt tt) (refused (lengths-differ (λ s. omega (arith, s .values))) (λ q l. absurd (omega (arith, l)))) (omega arith) (refused (no-such-unit above-8) (λ q l. absurd (omega (arith, l)))) .0,
+      its-refusal d (points nine) (outcome 1 0 tt tt) (refused (lengths-differ (λ s. omega (arith, s .values))) (λ q l. absurd (omega (arith, l)))) (omega arith) (refused (no-unit tt) (λ q l. absurd (omega (arith, l)))) .0,
     ))
 
 -- a unit above 8 is taken for 8
@@ -209,7 +206,7 @@ pub nine-taken-for-eight : Demand1 (answering (another-points (λ t o. Given (Ho
 nine-taken-for-eight d =
     absurd (omega (
       arith,
-      its-refusal d (points (table 9 (two .knots) (two .values) (two .slopes))) (outcome 0 0 tt tt) (points-accepted eighth two-within refl) (omega arith) (refused (no-such-unit above-8) (λ q l. absurd (omega (arith, l)))) .0,
+      its-refusal d (points (table 9 (two .knots) (two .values) (two .slopes))) (outcome 0 0 tt tt) (points-accepted eighth two-within refl) (omega arith) (refused (no-unit tt) (λ q l. absurd (omega (arith, l)))) .0,
     ))
 
 -- a verdict on a piece that is not asked for its unit: it is that in 1/256 where s is above 8
@@ -218,7 +215,7 @@ a-piece-in-any-unit d =
     absurd (omega (
       arith,
       its-refusal d (judge 9 (pos 1) (pos 1) (pos 256) (pos 256)) (outcome 0 0 rising tt)
-          (record { verdict = Rising; says = refl; promised = monotone eighth (within tt tt) (within tt tt) (below-the-line tt tt tt tt) }) (omega arith) (refused (Demands.no-such-unit above-8) (λ q l. absurd (omega (arith, l)))) .0,
+          (record { verdict = Rising; says = refl; promised = monotone eighth (within tt tt) (within tt tt) (below-the-line tt tt tt tt) }) (omega arith) (refused (Demands.no-such-unit (above-8 tt)) (λ q l. absurd (omega (arith, l)))) .0,
     ))
 
 -- the limit of the float answer in units: at s = 0 a piece of width 1,024 and rise 1,025 is then answered, which is "refused by 8 exactly if |z|·h³ > 2^40"

@@ -29,7 +29,7 @@ use Rattle.drive.specs.Refused.{accepted-for}
 use Rattle.drive.specs.Figures.{minus-zero-is-no-zero}
 use Rattle.exports.specs.Cases.{dwells, moves}
 use Rattle.demands.specs.Contracts.{Drives, DrivesC}
-use Rattle.demands.specs.Refuting.{within, overlooked, so-it-holds, in-piece, not-outside, answers-nothing, apart, numbers-differ}
+use Rattle.demands.specs.Refuting.{within, overlooked, so-it-holds, no-unit, in-piece, not-outside, answers-nothing, apart, numbers-differ}
 
 -- ---- a float is one whole number only
 
@@ -94,6 +94,10 @@ a-limit-too-low a p = not-too-large (λ l. l .above .lt) (so-it-holds (p .refusa
 pub a-limit-too-high : (a : Answer) → Drives (table 8 (pos 0 ∷ pos 189 ∷ []) (pos 0 ∷ pos 162860 ∷ []) (pos 0 ∷ pos 0 ∷ [])) (pos 0) 0 0 a → ⊥
 a-limit-too-high a p = overlooked (p .refusal) 8 0 (too-large (in-piece 0 tt tt tt) (record { above = ltZ-yes tt })) tt
 
+-- the limit in units: at s = 0 it would lie 256 times as high, and at s = 8 that of whole slopes 256 times as low
+pub a-limit-in-units : (a : Answer) → Drives (table 0 (pos 0 ∷ pos 1024 ∷ []) (pos 0 ∷ pos 1025 ∷ []) (pos 0 ∷ pos 0 ∷ [])) (pos 0) 0 0 a → ⊥
+a-limit-in-units a p = overlooked (p .refusal) 8 0 (too-large (in-piece 0 tt tt tt) (record { above = ltZ-yes tt })) tt
+
 pub falls-never-too-large : (a : Answer) → Drives (table 8 (pos 0 ∷ pos 1024 ∷ []) (pos 0 ∷ negsuc 1024 ∷ []) (pos 0 ∷ pos 0 ∷ [])) (pos 0) 0 0 a → ⊥
 falls-never-too-large a p = overlooked (p .refusal) 8 0 (too-large (in-piece 0 tt tt tt) (record { above = ltZ-yes tt })) tt
 
@@ -122,7 +126,18 @@ fall = table 8 (pos 0 ∷ pos 3 ∷ []) (pos 0 ∷ negsuc 9 ∷ []) (negsuc 852 
 abbrev line : Table
 line = table 8 (pos 0 ∷ pos 2 ∷ []) (pos 0 ∷ pos 2 ∷ []) (pos 256 ∷ pos 256 ∷ [])
 
+-- (0,0), (3,−10) with whole slopes −3 and −3, and the same in no unit
+abbrev whole-fall : Table
+whole-fall = table 0 (pos 0 ∷ pos 3 ∷ []) (pos 0 ∷ negsuc 9 ∷ []) (negsuc 2 ∷ negsuc 2 ∷ [])
+
+pub told-in-any-unit : (a : Answer) → Drives (table 9 (pos 0 ∷ pos 3 ∷ []) (pos 0 ∷ negsuc 9 ∷ []) (negsuc 2 ∷ negsuc 2 ∷ [])) (pos 1) 0 0 a → ⊥
+told-in-any-unit a p = overlooked (p .refusal) 12 0 (of-position (of-table (no-unit tt))) tt
+
 module _ {left above below : Float} where
+  -- 256·h³ below the line of whole slopes, and not 27
+  pub below-in-256ths : Exactly binary64 (pos 6912) below → Drives whole-fall (pos 1) 0 0 (moving left above below) → ⊥
+  below-in-256ths e p = numbers-differ tt (one-number e (below-the-line (on-its-piece p (in-piece 0 tt tt tt))))
+
   -- t for h in Horner's second step: 2048, and not 14336
   pub another-step : Exactly binary64 (pos 2048) above → Drives (table 8 (pos 0 ∷ pos 3 ∷ []) (pos 0 ∷ pos 8 ∷ []) (pos 0 ∷ pos 0 ∷ [])) (pos 1) 0 0 (moving left above below) → ⊥
   another-step e p = numbers-differ tt (one-number e (above-the-line (on-its-piece p (in-piece 0 tt tt tt))))

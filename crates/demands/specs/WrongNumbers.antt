@@ -6,6 +6,7 @@ use mathlib.Core.Bool.{Bool, true, false}
 use mathlib.Core.Logic.{_⊎_, inl, inr}
 use Prim.Native.Nat.{ℕ}
 use native.Mathlib.Omega.{arith}
+use lib.Dec.{lit≤}
 use lib.IntN.{ℤ, pos, negsuc}
 use lib.Signed.{leZ-yes, ltZ-yes}
 use Rattle.integers.specs.Decided.{told, denied}
@@ -14,6 +15,8 @@ use Rattle.integers.proofs.difference.Reads as integers·difference
 use Rattle.integers.proofs.between.Reads as integers·between
 use Rattle.integers.proofs.floor_div.Reads as integers·floor_div
 use Rattle.integers.proofs.nearest_div.Reads as integers·nearest_div
+use Rattle.rules.proofs.unit_within.Reads as rules·unit_within
+use Rattle.rules.proofs.unit.Reads as rules·unit
 use Rattle.rules.proofs.count_within.Reads as rules·count_within
 use Rattle.rules.proofs.width_within.Reads as rules·width_within
 use Rattle.rules.proofs.rise_within.Reads as rules·rise_within
@@ -21,6 +24,7 @@ use Rattle.exports.proofs.negwafir_difference.Reads as exports·negwafir_differ
 use Rattle.exports.proofs.negwafir_between.Reads as exports·negwafir_between
 use Rattle.exports.proofs.negwafir_floor_div.Reads as exports·negwafir_floor_div
 use Rattle.exports.proofs.negwafir_nearest_div.Reads as exports·negwafir_nearest_div
+use Rattle.exports.proofs.negwafir_unit_within.Reads as exports·negwafir_unit_within
 use Rattle.exports.proofs.negwafir_count_within.Reads as exports·negwafir_count_within
 use Rattle.exports.proofs.negwafir_width_within.Reads as exports·negwafir_width_within
 use Rattle.exports.proofs.negwafir_rise_within.Reads as exports·negwafir_rise_within
@@ -141,6 +145,41 @@ nearest-by-a-negative p = numbers-differ tt (either p .otherwise (leZ-yes tt))
 
 pub nearest-over-zero : nearest-div (pos 7) (pos 0) (pos 7) → ⊥
 nearest-over-zero p = numbers-differ tt (either p .otherwise (leZ-yes tt))
+
+-- ---- rules::unit_within, rules::unit
+
+abbrev unit-within : ℕ → (r : Bool) → Type 0
+unit-within s r = rules·unit_within.Post tt (s, tt) r (s, tt) ⊎ exports·negwafir_unit_within.Post tt (s, tt) r (s, tt)
+
+pub nine-is-a-unit : unit-within 9 true → ⊥
+nine-is-a-unit p = omega (arith, told (either p) refl .high)
+
+-- 264 is 8 in a byte, and 2^31 + 8 is below 0 with a sign
+pub a-unit-in-a-byte : unit-within 264 true → ⊥
+a-unit-in-a-byte p = omega (arith, told (either p) refl .high)
+
+pub a-unit-with-a-sign : unit-within 2147483656 true → ⊥
+a-unit-with-a-sign p = omega (arith, told (either p) refl .high)
+
+-- 8 and 0 are units
+pub the-finest-unit-refused : unit-within 8 false → ⊥
+the-finest-unit-refused p = denied (either p) refl (record { high = lit≤ tt })
+
+pub whole-slopes-refused : unit-within 0 false → ⊥
+whole-slopes-refused p = denied (either p) refl (record { high = lit≤ tt })
+
+-- where what it requires is met, 2^s is neither 2·s nor always 256, and 1 at 0
+abbrev pub UnitIsNot : ℕ → ℤ → Type 0
+UnitIsNot s u = rules·unit.Pre tt (s, tt) × (rules·unit.Post tt (s, tt) u (s, tt) → ⊥)
+
+pub twice-its-number : UnitIsNot 3 (pos 6)
+twice-its-number = (record { high = lit≤ tt }, λ p. numbers-differ tt (p .0))
+
+pub always-256 : UnitIsNot 0 (pos 256)
+always-256 = (record { high = lit≤ tt }, λ p. numbers-differ tt (p .0))
+
+pub no-unit-at-0 : UnitIsNot 0 (pos 0)
+no-unit-at-0 = (record { high = lit≤ tt }, λ p. numbers-differ tt (p .0))
 
 -- ---- rules::count_within
 

@@ -14,7 +14,7 @@ use Rattle.rules.specs.Limits.{unit, UnitWithin, WidthWithin, RiseWithin}
 use Rattle.rules.specs.Known.{unit-size}
 use Rattle.piece.specs.declared.Verdict.{Verdict}
 use Rattle.piece.specs.declared.Verdict.the-variants.{Rising, Falling, Flat, Bends, Refused}
-use Rattle.piece.specs.Promise.{rising, falling, flat, bends, none, Ruling, ruling, rulingOf, leaning, width-refused, monotone, bent}
+use Rattle.piece.specs.Promise.{rising, falling, flat, bends, none, Ruling, ruling, rulingOf, leaning, unit-refused, width-refused, monotone, bent}
 use Rattle.piece.specs.Determined.{one-ruling}
 use Rattle.exports.specs.declared.answers.Judgement.{Judgement}
 use Rattle.exports.specs.Cases.{JudgedAs, judged}
@@ -22,7 +22,7 @@ use Rattle.exports.specs.Determined.{one-judgement}
 use Rattle.demands.specs.Met.{numberOf}
 use Rattle.demands.specs.Contracts.{Judges, JudgesC, AskedMonotone, SaysMonotone, AskedCoefficients, HasCoefficients}
 use Rattle.demands.specs.SixteenGiven.{eighth}
-use Rattle.demands.specs.Refuting.{within, against-its-rise, below-the-line, in-the-ellipse, apart, numbers-differ}
+use Rattle.demands.specs.Refuting.{within, above-8, against-its-rise, below-the-line, in-the-ellipse, apart, numbers-differ}
 
 -- ---- a wrong test
 
@@ -79,6 +79,36 @@ a-level-piece-by-its-left-slope = crooked eighth (within tt tt) (within tt tt) F
 pub a-unit-of-255 : DoesNotBend 8 (pos 1) (pos 1) (pos 768) (pos 768)
 a-unit-of-255 = straight eighth (within tt tt) (within tt tt) tt (in-the-ellipse tt tt tt tt tt)
 
+-- ---- another unit
+
+-- 256 for the unit 2^s: with whole slopes 1, 1, 4, 0 then rises, and goes down at four fifths of its width; three times 256 for three times the unit: 1, 1, 3, 3 then bends
+pub a-verdict-in-256ths : IsNot Rising 0 (pos 1) (pos 1) (pos 4) (pos 0)
+a-verdict-in-256ths = crooked (record { high = lit≤ tt }) (within tt tt) (within tt tt) Rising tt (against-its-rise 4 5 tt tt tt tt)
+
+pub whole-slopes-at-the-border : DoesNotBend 0 (pos 1) (pos 1) (pos 3) (pos 3)
+whole-slopes-at-the-border = straight (record { high = lit≤ tt }) (within tt tt) (within tt tt) tt (in-the-ellipse tt tt tt tt tt)
+
+-- twice as large a unit: in 1/2 the piece 1, 1, 6, 7 then rises
+pub a-unit-twice-as-large : IsNot Rising 1 (pos 1) (pos 1) (pos 6) (pos 7)
+a-unit-twice-as-large = crooked (record { high = lit≤ tt }) (within tt tt) (within tt tt) Rising tt (against-its-rise 1 2 tt tt tt tt)
+
+-- a unit above 8 taken for 8, or asked after the width; or another number for it
+pub a-unit-above-8-taken : Judges 9 (pos 1) (pos 1) (pos 256) (pos 256) Rising → ⊥
+a-unit-above-8-taken p = omega (arith, ap numberOf (one-ruling p (unit-refused (above-8 tt))))
+
+pub a-width-asked-before-the-unit : Judges 4294967295 (pos 0) (pos 1) (pos 256) (pos 256) (Refused (record { number = 3; place = 0 })) → ⊥
+a-width-asked-before-the-unit p = omega (arith, ap numberOf (one-ruling p (unit-refused (above-8 tt))))
+
+pub a-unit-refused-by-3 : Judges 9 (pos 1) (pos 1) (pos 256) (pos 256) (Refused (record { number = 3; place = 0 })) → ⊥
+a-unit-refused-by-3 p = omega (arith, ap numberOf (one-ruling p (unit-refused (above-8 tt))))
+
+-- 8 and 0 refused
+pub the-finest-unit-refused : Judges 8 (pos 1) (pos 1) (pos 256) (pos 256) (Refused (record { number = 12; place = 0 })) → ⊥
+the-finest-unit-refused p = omega (arith, ap numberOf (one-ruling p (monotone eighth (within tt tt) (within tt tt) (below-the-line tt tt tt tt))))
+
+pub whole-slopes-refused : Judges 0 (pos 1) (pos 1) (pos 1) (pos 1) (Refused (record { number = 12; place = 0 })) → ⊥
+whole-slopes-refused p = omega (arith, ap numberOf (one-ruling p (monotone (record { high = lit≤ tt }) (within tt tt) (within tt tt) (below-the-line tt tt tt tt))))
+
 -- ---- a wrong number
 
 pub a-width-refused-by-4 : Judges 8 (pos 0) (pos 1) (pos 256) (pos 256) (Refused (record { number = 4; place = 0 })) → ⊥
@@ -96,6 +126,10 @@ another-square = ((within tt tt, (within tt tt, within tt tt)), λ c. numbers-di
 -- 3Z for 2Z
 pub another-cube : HasNot (pos 256) (pos 2) (pos 2) (pos 256) (pos 256) (pos 512) (pos 0) (negsuc 511)
 another-cube = ((within tt tt, (within tt tt, within tt tt)), λ c. numbers-differ tt (c .third-is))
+
+-- 256 for the unit: of whole slopes 1 and 1 the piece of width 2 and rise 2 has 2·t·h² alone
+pub coefficients-in-256ths : HasNot (pos 1) (pos 2) (pos 2) (pos 1) (pos 1) (pos 2) (pos 1530) (negsuc 1019)
+coefficients-in-256ths = ((within tt tt, (within tt tt, within tt tt)), λ c. numbers-differ tt (c .second-is))
 
 -- ---- a wrong record for C
 
@@ -120,6 +154,10 @@ flat-as-falling p = omega (arith, ap verdict (one-judgement p a-flat-piece))
 -- a refused piece that bends, and a rise that is refused
 pub a-verdict-where-refused : JudgesC 8 (pos 0) (pos 1) (pos 0) (pos 0) 3 0 4 → ⊥
 a-verdict-where-refused p = omega (arith, ap verdict (one-judgement p (judged (width-refused eighth (λ w. w .low .le)))))
+
+-- in C: a unit above 8 with a verdict
+pub a-verdict-in-no-unit : JudgesC 9 (pos 1) (pos 1) (pos 256) (pos 256) 12 0 1 → ⊥
+a-verdict-in-no-unit p = omega (arith, ap verdict (one-judgement p (judged (unit-refused (above-8 tt)))))
 
 pub a-refusal-with-a-verdict : JudgesC 8 (pos 1) (pos 1) (pos 256) (pos 256) 5 0 1 → ⊥
 a-refusal-with-a-verdict p = omega (arith, ap number (one-judgement p a-rise))

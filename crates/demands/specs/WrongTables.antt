@@ -13,21 +13,21 @@ use Rattle.rules.specs.Order.{one-given, answer-right}
 use Rattle.table.specs.declared.changed.Change.{Change}
 use Rattle.table.specs.Table.{Table, table, lengths-differ, not-monotone}
 use Rattle.table.specs.Accepted as Limits
-use Rattle.table.specs.Accepted.{Accepted, accepted-table, same-length-passes, count-passes, points-accepted}
+use Rattle.table.specs.Accepted.{unit-passes, same-length-passes, count-passes, points-accepted}
 use Rattle.table.specs.Tested.{points-by-test}
 use Rattle.table.specs.WouldBe.{of-points, no-such-point}
 use Rattle.slopes.specs.Slopes.{builtSlopes}
 use Rattle.slopes.specs.EveryPiece.{a-built-table-passes-the-table-check}
 use Rattle.position.specs.declared.Sought.{Sought}
 use Rattle.position.specs.declared.Sought.the-variants.{Outside, On}
-use Rattle.position.specs.Position.{Belongs, at-last-knot, Located}
+use Rattle.position.specs.Position.{Belongs, at-last-knot, of-table, Located}
 use Rattle.position.specs.Pieces.{one-piece}
 use Rattle.position.specs.Spot.{sought-outside, sought-on}
 use Rattle.position.specs.Refused.{accepted-at}
 use Rattle.curve.specs.Curve.{valueOn, Evaluated}
 use Rattle.demands.specs.SixteenGiven.{eighth, count, has-slopes}
 use Rattle.demands.specs.Contracts.{PointsAnswer, PointsAnswerC, Checks, ChecksC, Builds, BuildsC, AskedRenewal, RenewsTo, ChangedPoints, ChangedPointsC, Changes, ChangesC, AskedStep, Steps, Locates, LocatesC, AskedSeek, Seeks, Evaluates, EvaluatesC}
-use Rattle.demands.specs.Refuting.{within, overlooked, so-it-holds, too-narrow, too-high, against-its-rise, below-the-line, in-piece, no-bad-width, no-bad-rise, no-bend, no-bad-width-then, the-point-is-there, no-bend-there, not-outside, answers-nothing, numbers-differ, lists-differ}
+use Rattle.demands.specs.Refuting.{within, overlooked, so-it-holds, no-unit, too-narrow, too-high, against-its-rise, below-the-line, in-piece, no-bad-width, no-bad-rise, no-bend, no-bad-width-then, the-point-is-there, no-bend-there, not-outside, answers-nothing, numbers-differ, lists-differ}
 
 abbrev 0-1 : List ℤ
 0-1 = pos 0 ∷ pos 1 ∷ []
@@ -87,6 +87,22 @@ longer-values-taken p = overlooked p 1 0 (lengths-differ (λ s. omega (arith, s 
 pub good-points-refused : PointsAnswer (table 8 0-1 0-1 0-0) 2 0 → ⊥
 good-points-refused p = count-passes (count tt tt) 0 (so-it-holds p)
 
+-- the unit asked after the lengths, the number of points or a width; or taken for 8; or another number for it
+pub lengths-asked-before-the-unit : PointsAnswer (table 9 0-1 [] 0-0) 1 0 → ⊥
+lengths-asked-before-the-unit p = overlooked p 12 0 (no-unit tt) tt
+
+pub a-count-asked-before-the-unit : PointsAnswer (table 9 [] [] []) 2 0 → ⊥
+a-count-asked-before-the-unit p = overlooked p 12 0 (no-unit tt) tt
+
+pub a-width-asked-before-the-unit : PointsAnswer (table 264 0-0 0-0 0-0) 3 0 → ⊥
+a-width-asked-before-the-unit p = overlooked p 12 0 (no-unit tt) tt
+
+pub points-in-any-unit : PointsAnswer (table 9 0-1 0-1 0-0) 0 0 → ⊥
+points-in-any-unit p = overlooked p 12 0 (no-unit tt) tt
+
+pub points-in-the-finest-unit-refused : PointsAnswer (table 8 0-1 0-1 0-0) 12 0 → ⊥
+points-in-the-finest-unit-refused p = unit-passes eighth 0 (so-it-holds p)
+
 -- in C: the slopes asked about as well, which a build would make good
 pub points-by-a-check : PointsAnswerC (table 8 0-1 0-1 (pos 1025 ∷ pos 256 ∷ [])) 5 0 → ⊥
 points-by-a-check p = omega (arith, one-given p (points-accepted eighth (points-by-test 0-1 0-1 refl (count tt tt) tt) refl) .0)
@@ -115,6 +131,16 @@ every-table-refused-by-5 p = no-bend a-straight-rise (so-it-holds p)
 pub a-bend-refused-by-4 : Checks (table 8 0-1 0-1 (pos 1025 ∷ pos 256 ∷ [])) 4 0 → ⊥
 a-bend-refused-by-4 p = no-bad-rise (within tt tt) (so-it-holds p)
 
+-- in whole slopes: 4 and 0 taken, as in 1/256; 1 and 1 refused
+pub a-check-in-256ths : Checks (table 0 0-1 0-1 (pos 4 ∷ pos 0 ∷ [])) 0 0 → ⊥
+a-check-in-256ths p = overlooked p 5 0 (not-monotone (lit< tt) (against-its-rise 4 5 tt tt tt tt)) tt
+
+pub a-whole-slope-refused : Checks (table 0 0-1 0-1 (pos 1 ∷ pos 1 ∷ [])) 5 0 → ⊥
+a-whole-slope-refused p = no-bend {t = table 0 0-1 0-1 (pos 1 ∷ pos 1 ∷ [])} (below-the-line tt tt tt tt) (so-it-holds p)
+
+pub a-bend-asked-before-the-unit : Checks (table 9 0-1 0-1 (pos 1025 ∷ pos 256 ∷ [])) 5 0 → ⊥
+a-bend-asked-before-the-unit p = overlooked p 12 0 (no-unit tt) tt
+
 -- in C: the slopes not asked about
 pub a-check-of-the-points : ChecksC (table 8 0-1 0-1 (pos 1025 ∷ pos 256 ∷ [])) 0 0 → ⊥
 a-check-of-the-points p = overlooked p 5 0 (not-monotone (lit< tt) (against-its-rise 2 3 tt tt tt tt)) tt
@@ -127,6 +153,10 @@ to point knot value = record { point = point; knot = knot; value = value }
 
 pub widths-asked-of-the-old-points : ChangedPoints (table 8 0-1-2-3 0-1-4-7 0-0-0-0) (to 1 (pos 2) (pos 1)) 0 0 → ⊥
 widths-asked-of-the-old-points p = overlooked p 3 1 (of-points (too-narrow tt tt)) tt
+
+-- the point asked before the unit
+pub the-point-asked-before-the-unit : ChangedPoints (table 9 0-1-2-3 0-1-4-7 0-0-0-0) (to 4 (pos 4) (pos 9)) 7 0 → ⊥
+the-point-asked-before-the-unit p = overlooked p 12 0 (of-points (no-unit tt)) tt
 
 pub rises-asked-of-the-old-points : ChangedPoints (table 8 0-1-2 0-0-0 0-0-0) (to 1 (pos 1) (pos 1048577)) 0 0 → ⊥
 rises-asked-of-the-old-points p = overlooked p 4 0 (of-points (too-high tt tt)) tt
@@ -242,6 +272,26 @@ the-ends-rounded-down p = lists-differ tt (p .slopes)
 pub the-last-end-with-swapped-widths : Builds (table 8 (pos 0 ∷ pos 1 ∷ pos 3 ∷ []) (pos 0 ∷ negsuc 0 ∷ negsuc 1 ∷ []) 0-0-0) 0 0 (negsuc 297 ∷ negsuc 176 ∷ negsuc 297 ∷ []) → ⊥
 the-last-end-with-swapped-widths p = lists-differ tt (p .slopes)
 
+-- in other units: 768 for three units in the mean, in the bound and 256 in the secant; slopes built in 1/256 and cut to the unit by rounding down
+pub a-mean-with-768 : Builds (table 0 0-1-2 0-1-4 0-0-0) 0 0 (pos 0 ∷ pos 384 ∷ pos 4 ∷ []) → ⊥
+a-mean-with-768 p = lists-differ tt (p .slopes)
+
+pub a-bound-of-768 : Builds (table 0 0-1-2 (pos 0 ∷ pos 1 ∷ negsuc 2 ∷ []) 0-0-0) 0 0 (pos 768 ∷ pos 0 ∷ negsuc 5 ∷ []) → ⊥
+a-bound-of-768 p = lists-differ tt (p .slopes)
+
+pub a-secant-in-256ths : Builds (table 3 (pos 0 ∷ pos 3 ∷ []) (pos 0 ∷ negsuc 9 ∷ []) 0-0) 0 0 (negsuc 852 ∷ negsuc 852 ∷ []) → ⊥
+a-secant-in-256ths p = lists-differ tt (p .slopes)
+
+pub slopes-rounded-down-to-the-unit : Builds (table 3 (pos 0 ∷ pos 3 ∷ []) (pos 0 ∷ negsuc 9 ∷ []) 0-0) 0 0 (negsuc 26 ∷ negsuc 26 ∷ []) → ⊥
+slopes-rounded-down-to-the-unit p = lists-differ tt (p .slopes)
+
+-- a build in no unit, done or written though it is refused
+pub a-build-in-any-unit : {after : List ℤ} → Builds (table 9 0-1 0-1 0-0) 0 0 after → ⊥
+a-build-in-any-unit p = overlooked (p .refusal) 12 0 (no-unit tt) tt
+
+pub written-in-no-unit : Builds (table 9 0-1 0-1 0-0) 12 0 (pos 256 ∷ pos 256 ∷ []) → ⊥
+written-in-no-unit p = lists-differ tt (p .slopes)
+
 -- in C: knots 0 and 1 with values 5 and 5 refused, as they would be the other way round
 pub values-for-knots : BuildsC (table 8 0-1 (pos 5 ∷ pos 5 ∷ []) 0-0) 3 0 0-0 → ⊥
 values-for-knots p = no-bad-width (within tt tt) (so-it-holds (p .refusal))
@@ -258,7 +308,15 @@ no-slope-renewed = ((within tt tt, (points-by-test 0-1 0-1 refl (count tt tt) tt
 pub the-first-slope-renewed-everywhere : RenewsNot (table 8 0-1-2 0-1-4 (pos 1 ∷ pos 1 ∷ pos 1 ∷ [])) 0 3 0-0-0
 the-first-slope-renewed-everywhere = ((within tt tt, (points-by-test 0-1-2 0-1-4 refl (count tt tt) tt, (refl, (lit≤ tt, lit≤ tt)))), λ e. lists-differ tt e)
 
+-- 256 for the unit that it is handed
+pub renewed-in-256ths : RenewsNot (table 0 0-1 0-1 0-0) 0 2 (pos 256 ∷ pos 256 ∷ [])
+renewed-in-256ths = ((within tt tt, (points-by-test 0-1 0-1 refl (count tt tt) tt, (refl, (lit≤ tt, lit≤ tt)))), λ e. lists-differ tt e)
+
 -- ---- `locate`: a position's piece
+
+-- a position outside asked before the unit
+pub located-before-the-unit : Locates (table 9 0-1 0-1 (pos 256 ∷ pos 256 ∷ [])) (pos 2) 6 0 0 → ⊥
+located-before-the-unit p = overlooked (p .refusal) 12 0 (of-table (no-unit tt)) tt
 
 -- the tables that a build leaves of the points (0,0), (1,1), (2,4) and of (0,0), (3,−10)
 abbrev rise : Table
@@ -352,6 +410,17 @@ a-value-at-another-place p = numbers-differ tt (its-value p (in-piece 0 tt tt tt
 pub a-value-with-the-left-slope-twice : Evaluates (table 8 0-2 (pos 0 ∷ pos 4 ∷ []) (pos 0 ∷ pos 1536 ∷ [])) (pos 1) 0 0 (pos 2) → ⊥
 a-value-with-the-left-slope-twice p = numbers-differ tt (its-value p (in-piece 0 tt tt tt))
 
+-- 256·h³ below the line of whole slopes: 0 in the middle of (0,0), (2,2), and not 1
+pub a-value-over-256ths : Evaluates (table 0 0-2 0-2 (pos 1 ∷ pos 1 ∷ [])) (pos 1) 0 0 (pos 0) → ⊥
+a-value-over-256ths p = numbers-differ tt (its-value p (in-piece 0 tt tt tt))
+
+-- a value in no unit, and beside its refusal
+pub a-value-in-any-unit : {v : ℤ} → Evaluates (table 9 0-1 0-1 (pos 256 ∷ pos 256 ∷ [])) (pos 0) 0 0 v → ⊥
+a-value-in-any-unit p = overlooked (p .refusal) 12 0 (of-table (no-unit tt)) tt
+
+pub a-value-in-no-unit : Evaluates (table 9 0-1 0-1 (pos 256 ∷ pos 256 ∷ [])) (pos 1) 12 0 (pos 1) → ⊥
+a-value-in-no-unit p = numbers-differ tt (answers-nothing (p .value))
+
 pub a-value-where-refused : {x : ℤ} → Evaluates (table 8 [] [] []) x 2 0 (pos 1) → ⊥
 a-value-where-refused p = numbers-differ tt (answers-nothing (p .value))
 
@@ -398,6 +467,13 @@ one-slope-too-many p = lists-differ tt (p .slopes)
 
 pub slopes-of-the-old-points : Changes four (to 0 (pos 0) (negsuc 1)) 0 0 (table 8 0-1-2-3 values-0 (pos 0 ∷ pos 384 ∷ pos 768 ∷ pos 768 ∷ [])) → ⊥
 slopes-of-the-old-points p = lists-differ tt (p .slopes)
+
+-- slopes renewed in 1/256, in a table of whole slopes; and a change in no unit
+pub renewed-in-another-unit : Changes (table 0 0-1 0-1 (pos 1 ∷ pos 1 ∷ [])) (to 1 (pos 1) (pos 2)) 0 0 (table 0 0-1 0-2 (pos 512 ∷ pos 512 ∷ [])) → ⊥
+renewed-in-another-unit p = lists-differ tt (p .slopes)
+
+pub a-change-in-any-unit : (after : Table) → Changes (table 9 0-1 0-1 (pos 256 ∷ pos 256 ∷ [])) (to 1 (pos 1) (pos 2)) 0 0 after → ⊥
+a-change-in-any-unit after p = overlooked (p .refusal) 12 0 (of-points (no-unit tt)) tt
 
 -- whatever it leaves in the lists
 pub a-change-onto-the-next-knot-made : (after : Table) → Changes four (to 1 (pos 2) (pos 1)) 0 0 after → ⊥

@@ -1,5 +1,6 @@
 -- The limits as sizes of values, for proofs about code.
 use Prim.Native.Nat.{ℕ}
+use mathlib.Core.Path.{_≡_, refl}
 use mathlib.Core.List.{[], _∷_}
 use lib.Pow.{pow-pos, pow-mono}
 use lib.IntN.{ℤ, pos, _-ℤ_, _*ℤ_}
@@ -10,6 +11,10 @@ use Rattle.integers.specs.Order.{≤ℤ-trans, 1≤→0<, 0≤-gap, 0≤-produc
 use Rattle.integers.specs.Within.{Within, within}
 use Rattle.integers.specs.Sizes.{Known, known}
 use Rattle.rules.specs.Limits.{unit, UnitWithin, WidthWithin, RiseWithin}
+
+-- document 01 is s = 8
+pub document-01 : unit 8 ≡ pos 256
+document-01 = refl
 
 -- what the sizes rest on, of a slope unit
 abbrev pub UnitSize : ℤ → Type 0

@@ -1,4 +1,5 @@
--- "Figures to hold against it" of the exact rules, as request 2 of document 02 amends them, as far as they speak of built slopes: the definitions that `build` promises give them.
+-- "Figures to hold against it" of the exact rules, as request 2 of document 02 amends them, as far as they speak of built slopes, and the same points in other units: the definitions that `build` promises give
+-- them.
 use mathlib.Core.Path.{_≡_, refl}
 use mathlib.Core.List.{[], _∷_}
 use Prim.Native.Nat.{ℕ}
@@ -64,6 +65,41 @@ the-last-that-is-bounded = refl
 -- both ends of four points
 pub both-ends-of-four : builtSlopes (unit 8) (pos 0 ∷ pos 1 ∷ pos 2 ∷ pos 3 ∷ []) (pos 0 ∷ pos 1 ∷ pos 4 ∷ pos 3 ∷ []) ≡ pos 0 ∷ pos 384 ∷ pos 0 ∷ negsuc 767 ∷ []
 both-ends-of-four = refl
+
+-- ---- other units: "read 2^s for 256, 3·2^s for 768"
+
+-- (0,0), (1,1), (2,4), which have 0, 384, 1024 in 1/256
+pub in-whole-slopes : builtSlopes (unit 0) (pos 0 ∷ pos 1 ∷ pos 2 ∷ []) (pos 0 ∷ pos 1 ∷ pos 4 ∷ []) ≡ pos 0 ∷ pos 1 ∷ pos 4 ∷ []
+in-whole-slopes = refl
+
+pub in-halves : builtSlopes (unit 1) (pos 0 ∷ pos 1 ∷ pos 2 ∷ []) (pos 0 ∷ pos 1 ∷ pos 4 ∷ []) ≡ pos 0 ∷ pos 3 ∷ pos 8 ∷ []
+in-halves = refl
+
+pub in-16ths : builtSlopes (unit 4) (pos 0 ∷ pos 1 ∷ pos 2 ∷ []) (pos 0 ∷ pos 1 ∷ pos 4 ∷ []) ≡ pos 0 ∷ pos 24 ∷ pos 64 ∷ []
+in-16ths = refl
+
+pub in-128ths : builtSlopes (unit 7) (pos 0 ∷ pos 1 ∷ pos 2 ∷ []) (pos 0 ∷ pos 1 ∷ pos 4 ∷ []) ≡ pos 0 ∷ pos 192 ∷ pos 512 ∷ []
+in-128ths = refl
+
+-- (0,0), (3,−10), which have −853 twice: each toward zero
+pub a-fall-in-whole-slopes : builtSlopes (unit 0) (pos 0 ∷ pos 3 ∷ []) (pos 0 ∷ negsuc 9 ∷ []) ≡ negsuc 2 ∷ negsuc 2 ∷ []
+a-fall-in-whole-slopes = refl
+
+pub a-fall-in-8ths : builtSlopes (unit 3) (pos 0 ∷ pos 3 ∷ []) (pos 0 ∷ negsuc 9 ∷ []) ≡ negsuc 25 ∷ negsuc 25 ∷ []
+a-fall-in-8ths = refl
+
+pub a-fall-in-128ths : builtSlopes (unit 7) (pos 0 ∷ pos 3 ∷ []) (pos 0 ∷ negsuc 9 ∷ []) ≡ negsuc 425 ∷ negsuc 425 ∷ []
+a-fall-in-128ths = refl
+
+-- (0,0), (1,1), (3,2), which have 298, 177, 42; and (0,0), (1,1), (2,−3), whose first slope is held to its bound
+pub softer-ends-in-16ths : builtSlopes (unit 4) (pos 0 ∷ pos 1 ∷ pos 3 ∷ []) (pos 0 ∷ pos 1 ∷ pos 2 ∷ []) ≡ pos 18 ∷ pos 11 ∷ pos 2 ∷ []
+softer-ends-in-16ths = refl
+
+pub softer-ends-in-whole-slopes : builtSlopes (unit 0) (pos 0 ∷ pos 1 ∷ pos 3 ∷ []) (pos 0 ∷ pos 1 ∷ pos 2 ∷ []) ≡ pos 1 ∷ pos 0 ∷ pos 0 ∷ []
+softer-ends-in-whole-slopes = refl
+
+pub the-bound-in-whole-slopes : builtSlopes (unit 0) (pos 0 ∷ pos 1 ∷ pos 2 ∷ []) (pos 0 ∷ pos 1 ∷ negsuc 2 ∷ []) ≡ pos 3 ∷ pos 0 ∷ negsuc 5 ∷ []
+the-bound-in-whole-slopes = refl
 
 -- ---- two counts at opposite ends of 32 bits
 
