@@ -131,7 +131,7 @@ static table lists_of(copy *c)
 /* A slope in 1/256 in the present unit, rounded toward zero: so a built one becomes the one that a build makes there. */
 static int32_t in_units(int32_t slope)
 {
-    return unit <= NEGWAFIR_MOST_UNIT ? slope / (256 >> unit) : slope;
+    return unit <= NEGWAFIR_MOST_UNIT ? slope / (1 << (NEGWAFIR_MOST_UNIT - unit)) : slope;
 }
 
 static void copy_table(copy *c, table t)

@@ -49,7 +49,7 @@ static void fill_steep_table(table t, size_t length)
     for (size_t i = 0; i < length; i++) {
         t.knots[i] = (int32_t)knot;
         t.values[i] = (int32_t)(secant * knot);
-        t.slopes[i] = (int32_t)(3 * 256 * secant);
+        t.slopes[i] = (int32_t)(3 * (1 << NEGWAFIR_MOST_UNIT) * secant);
         knot += dice(1, 200);
     }
 }

@@ -29,7 +29,7 @@ static const char *cause(uint32_t number) {
     case NEGWAFIR_POSITION: return "position before the first or after the last knot";
     case NEGWAFIR_POINT: return "no point with this number";
     case NEGWAFIR_SIZE: return "piece too large for the exact float answer";
-    case NEGWAFIR_SLOPE_UNIT: return "the slope unit s is not in 0 to 8";
+    case NEGWAFIR_SLOPE_UNIT: return "the slope unit is not in 0 to 8";
     default: return "no such refusal";
     }
 }

@@ -37,8 +37,8 @@
  *   A refusal is a number and a place; number 0 at place 0 is none. The number is the first cause
  *   that holds, in the order that stands with each function. The place is the first piece for which
  *   it does, for 8 the position's piece, and 0 where the cause is not a piece's. So all widths are
- *   asked before any rise, and all rises before any slope: a bad rise at piece 0 and a bad width at
- *   piece 9 give 3 at 9. The slope unit is asked before all else: one above 8 gives 12, whatever the
+ *   checked before any rise, and all rises before any slope: a bad rise at piece 0 and a bad width at
+ *   piece 9 give 3 at 9. The slope unit is checked before all else: one above 8 gives 12, whatever the
  *   lists are. A refused call changes no list. Its value, piece or verdict is 0, its float answer a
  *   dwell at 0.
  *

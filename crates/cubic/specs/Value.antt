@@ -8,7 +8,7 @@ abbrev pub rounded : (n d : ℤ) → ℤ
 rounded n d = nearestOf n d
 
 -- "(a·t·h² + (3Z − 2a − b)·t²·h + (a + b − 2Z)·t³) / (256·h³)": what stands above the line, t counts into a piece of width h, rise z and slopes m, n, and
--- what stands below it. Here Z = U·z, a = m·h and b = n·h, with U the slope unit.
+-- what stands below it. Here Z = U·z, a = m·h and b = n·h, with U the slope unit, which stands for 256.
 abbrev pub numerator : (U h z m n t : ℤ) → ℤ
 numerator U h z m n t = riseAt (U *ℤ z) (m *ℤ h) (n *ℤ h) t h
 

@@ -1,4 +1,4 @@
--- What the wrong programs of `Wrong1.antt`, `Wrong2.antt`, `WrongEnds.antt`, `Wrong3.antt` and `Wrong16.antt` are made of, and the tables on which they are told.
+-- What the wrong programs of `Wrong1.antt`, `Wrong2.antt`, `WrongEnds.antt`, `WrongUnits.antt`, `Wrong3.antt`, `Wrong01.antt` and `Wrong16.antt` are made of, and the tables on which they are told.
 use mathlib.Core.Path.{_≡_, refl}
 use mathlib.Core.Logic.{_⊎_, ⊎-elim}
 use mathlib.Core.List.{List, [], _∷_}

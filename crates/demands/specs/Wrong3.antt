@@ -112,6 +112,27 @@ the-last-value-too made c t u = table (u .s) (u .knots) (set (u .values) 3 (pos 
 pub another-value-changed : Demand3 (answering (leaving the-last-value-too)) → ⊥
 another-value-changed d = numbers-differ tt (to-be the-last-value-too d [] lowering four is-lowered .other-values 3 (λ e. omega (arith, e)))
 
+-- the slope of the changed point renewed in 1/256: where (0,0), (1,1), (2,4), (3,7) have the whole slopes 0, 1, 3, 3 and point 0 is lowered to −2, it is then 768, and not 3
+abbrev pub its-slope-in-256ths : List Change → Change → (before ours : Table) → Table
+its-slope-in-256ths made c t u = table (u .s) (u .knots) (u .values) (set (u .slopes) (c .point) (entry (builtSlopes (pos 256) (u .knots) (u .values)) (c .point)))
+
+pub a-slope-renewed-in-256ths : Demand3 (answering (leaving its-slope-in-256ths)) → ⊥
+a-slope-renewed-in-256ths d =
+    to-be its-slope-in-256ths d [] lowering whole-four changed .renewed-slopes 0 (lit< tt) (at-it refl) .first refl (lit< tt) .otherwise (ltZ-yes tt) (λ l. absurd (l .lt)) .size .low .le
+  where
+    whole-four : Table
+    whole-four = table 0 (four .knots) (four .values) (pos 0 ∷ pos 1 ∷ pos 3 ∷ pos 3 ∷ [])
+
+    changed : Changed lowering whole-four (table 0 (lowered .knots) (lowered .values) (pos 3 ∷ pos 3 ∷ pos 3 ∷ pos 3 ∷ [])) 0 0
+    changed = made lowering whole-four (record { high = lit≤ tt }) (lit< tt) refl lowered-within
+
+-- the table said to be in another unit from then on
+abbrev pub the-next-unit : List Change → Change → (before ours : Table) → Table
+the-next-unit made c t u = table (suc (u .s)) (u .knots) (u .values) (u .slopes)
+
+pub another-unit-left : Demand3 (answering (leaving the-next-unit)) → ⊥
+another-unit-left d = absurd (omega (arith, to-be the-next-unit d [] lowering four is-lowered .the-same-unit))
+
 -- a build in place of a change, where the last slope, 1, is somebody else's
 abbrev pub every-slope : List Change → Change → (before ours : Table) → Table
 every-slope made c t u = table (u .s) (u .knots) (u .values) (builtSlopes (unit (u .s)) (u .knots) (u .values))

@@ -42,7 +42,7 @@ one-size nan s t a b v w = absurd v
 one-size (inf u) s t a b v w = absurd v
 one-size (fin u k e) s t a b v w = (sym (v .0) ∙ w .0, eq-of-mul-eq-mul-right (down e) (above-0 e) a b (sym (v .1) ∙ w .1))
 
-one-number : {f : Format} {m n : ℤ} {x : Float} → Exactly f m x → Exactly f n x → m ≡ n
+pub one-number : {f : Format} {m n : ℤ} {x : Float} → Exactly f m x → Exactly f n x → m ≡ n
 one-number {m = m} {n} {x} p q = of-parts m n (one-size x (negative m) (negative n) (natAbs m) (natAbs n) (p .value) (q .value))
   where
     of-parts : (m n : ℤ) → (negative m ≡ negative n) × (natAbs m ≡ natAbs n) → m ≡ n
@@ -94,7 +94,7 @@ a-limit-too-low a p = not-too-large (λ l. l .above .lt) (so-it-holds (p .refusa
 pub a-limit-too-high : (a : Answer) → Drives (table 8 (pos 0 ∷ pos 189 ∷ []) (pos 0 ∷ pos 162860 ∷ []) (pos 0 ∷ pos 0 ∷ [])) (pos 0) 0 0 a → ⊥
 a-limit-too-high a p = overlooked (p .refusal) 8 0 (too-large (in-piece 0 tt tt tt) (record { above = ltZ-yes tt })) tt
 
--- the limit in units: at s = 0 it would lie 256 times as high, and at s = 8 that of whole slopes 256 times as low
+-- the limit in units: at s = 0 it would lie 256 times as high
 pub a-limit-in-units : (a : Answer) → Drives (table 0 (pos 0 ∷ pos 1024 ∷ []) (pos 0 ∷ pos 1025 ∷ []) (pos 0 ∷ pos 0 ∷ [])) (pos 0) 0 0 a → ⊥
 a-limit-in-units a p = overlooked (p .refusal) 8 0 (too-large (in-piece 0 tt tt tt) (record { above = ltZ-yes tt })) tt
 

@@ -81,12 +81,19 @@ a-unit-of-255 = straight eighth (within tt tt) (within tt tt) tt (in-the-ellipse
 
 -- ---- another unit
 
--- 256 for the unit 2^s: with whole slopes 1, 1, 4, 0 then rises, and goes down at four fifths of its width; three times 256 for three times the unit: 1, 1, 3, 3 then bends
+-- 256 for the unit 2^s: with whole slopes 1, 1, 4, 0 then rises, and goes down at four fifths of its width
 pub a-verdict-in-256ths : IsNot Rising 0 (pos 1) (pos 1) (pos 4) (pos 0)
 a-verdict-in-256ths = crooked (record { high = lit≤ tt }) (within tt tt) (within tt tt) Rising tt (against-its-rise 4 5 tt tt tt tt)
 
+-- at the border of whole slopes: the paper's < turns 1, 1, 3, 3 and 1, 1, 4, 1 away, which rise; one more takes 1, 1, 3, 4
 pub whole-slopes-at-the-border : DoesNotBend 0 (pos 1) (pos 1) (pos 3) (pos 3)
 whole-slopes-at-the-border = straight (record { high = lit≤ tt }) (within tt tt) (within tt tt) tt (in-the-ellipse tt tt tt tt tt)
+
+pub whole-slopes-where-it-is-steepest : DoesNotBend 0 (pos 1) (pos 1) (pos 4) (pos 1)
+whole-slopes-where-it-is-steepest = straight (record { high = lit≤ tt }) (within tt tt) (within tt tt) tt (in-the-ellipse tt tt tt tt tt)
+
+pub whole-slopes-past-the-border : IsNot Rising 0 (pos 1) (pos 1) (pos 3) (pos 4)
+whole-slopes-past-the-border = crooked (record { high = lit≤ tt }) (within tt tt) (within tt tt) Rising tt (against-its-rise 1 2 tt tt tt tt)
 
 -- twice as large a unit: in 1/2 the piece 1, 1, 6, 7 then rises
 pub a-unit-twice-as-large : IsNot Rising 1 (pos 1) (pos 1) (pos 6) (pos 7)

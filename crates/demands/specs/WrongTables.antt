@@ -1,5 +1,5 @@
 -- Wrong programs for tables. Each theorem is named by one, and says that what it would answer, and leave in the lists, does not meet the contract. `Contracts.antt` says what each
--- function may answer. A wrong program that breaks one of the demands stands in `Wrong1.antt`, `Wrong2.antt` or `Wrong3.antt`.
+-- function may answer. A wrong program that breaks one of the demands stands in `Wrong1.antt`, `Wrong2.antt`, `WrongEnds.antt`, `WrongUnits.antt` or `Wrong3.antt`.
 use mathlib.Core.Path.{_≡_, refl, _∙_, ap}
 use mathlib.Core.List.{List, [], _∷_}
 use Prim.Native.Nat.{ℕ}
@@ -468,12 +468,15 @@ one-slope-too-many p = lists-differ tt (p .slopes)
 pub slopes-of-the-old-points : Changes four (to 0 (pos 0) (negsuc 1)) 0 0 (table 8 0-1-2-3 values-0 (pos 0 ∷ pos 384 ∷ pos 768 ∷ pos 768 ∷ [])) → ⊥
 slopes-of-the-old-points p = lists-differ tt (p .slopes)
 
--- slopes renewed in 1/256, in a table of whole slopes; and a change in no unit
+-- slopes renewed in 1/256, in a table of whole slopes; and a change in no unit, made or refused and made
 pub renewed-in-another-unit : Changes (table 0 0-1 0-1 (pos 1 ∷ pos 1 ∷ [])) (to 1 (pos 1) (pos 2)) 0 0 (table 0 0-1 0-2 (pos 512 ∷ pos 512 ∷ [])) → ⊥
 renewed-in-another-unit p = lists-differ tt (p .slopes)
 
 pub a-change-in-any-unit : (after : Table) → Changes (table 9 0-1 0-1 (pos 256 ∷ pos 256 ∷ [])) (to 1 (pos 1) (pos 2)) 0 0 after → ⊥
 a-change-in-any-unit after p = overlooked (p .refusal) 12 0 (of-points (no-unit tt)) tt
+
+pub changed-in-no-unit : Changes (table 9 0-1 0-1 (pos 256 ∷ pos 256 ∷ [])) (to 1 (pos 1) (pos 2)) 12 0 (table 9 0-1 0-2 (pos 256 ∷ pos 256 ∷ [])) → ⊥
+changed-in-no-unit p = lists-differ tt (p .values)
 
 -- whatever it leaves in the lists
 pub a-change-onto-the-next-knot-made : (after : Table) → Changes four (to 1 (pos 2) (pos 1)) 0 0 after → ⊥

@@ -31,7 +31,7 @@ use Rattle.demands.specs.Wrong2.{leaving, but-at, left, valued-by, the-s
 use Rattle.demands.specs.WrongEnds.{at-the-first, the-first, by-cases, bound, quotient, of-two-points}
 
 -- whole slopes, and those in 1/8
-whole : UnitWithin 0
+pub whole : UnitWithin 0
 whole = record { high = lit≤ tt }
 
 eighths : UnitWithin 3
@@ -94,10 +94,10 @@ slopes-rounded-down-to-the-unit d = left d (falling-at 3) eighths falling-within
 
 -- a table of one piece, whoever proposed its slopes, has its value at a position inside
 module _ (s : ℕ) (k₀ k₁ v₀ v₁ m n x : ℤ) where
-  abbrev alone : Table
+  abbrev pub alone : Table
   alone = table s (k₀ ∷ k₁ ∷ []) (v₀ ∷ v₁ ∷ []) (m ∷ n ∷ [])
 
-  proposed : UnitWithin s → PointsWithin (k₀ ∷ k₁ ∷ []) (v₀ ∷ v₁ ∷ []) → MonotoneAt alone 0 → Belongs (k₀ ∷ k₁ ∷ []) x 0 → WithinKnots (k₀ ∷ k₁ ∷ []) x → Evaluated alone x 0 0 (valueOn alone 0 x)
+  pub proposed : UnitWithin s → PointsWithin (k₀ ∷ k₁ ∷ []) (v₀ ∷ v₁ ∷ []) → MonotoneAt alone 0 → Belongs (k₀ ∷ k₁ ∷ []) x 0 → WithinKnots (k₀ ∷ k₁ ∷ []) x → Evaluated alone x 0 0 (valueOn alone 0 x)
   proposed u p o b w =
       record {
         refusal = went-on refl (as-checked (went-on refl (points-accepted u p refl) (passed no-bend done))) (taken-inside w);

@@ -33,7 +33,7 @@ resting = dwell (fin false 0 (pos 0))
 
 -- "A flat piece answers a dwell that carries its level as a 64-bit float. Any other answers a move: one record of three 64-bit floats, the left value, the
 -- numerator above and 256·h³. All three are exact whole numbers, with the numerator worked out in floats." So at the place t of a piece of width h, rise z and
--- slopes m, n in 1/U, where 256 stands for U: the numerator is that of the value there, and a flat piece, which is one without a rise that 5 has not refused, has its left value for its level.
+-- slopes m, n in 1/U, where U stands for 256: the numerator is that of the value there, and a flat piece, which is one without a rise that 5 has not refused, has its left value for its level.
 -- That floats are used on the way is no part of the answer, which they leave exact.
 pub data ToldIn (U left h z m n t : ℤ) : Telling → Type 0 where
   dwells : {x : Float} → z ≡ pos 0 → Exactly binary64 left x → ToldIn U left h z m n t (dwell x)

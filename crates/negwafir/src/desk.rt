@@ -1,4 +1,4 @@
-// The three lists of the workbench, and what the commands do with them. What sets a list or changes the table is lent the lists to be changed; all others only read them.
+// The three lists of the workbench and its slope unit, and what the commands do with them. What sets a list or changes the table is lent the lists to be changed; all others only read them.
 use crate::Input;
 use crate::Kept;
 use crate::feed::LONGEST;

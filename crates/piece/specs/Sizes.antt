@@ -5,15 +5,15 @@ use lib.IntN.{ℤ, pos, negsuc}
 use Rattle.integers.specs.Promise.{withSign}
 use Rattle.integers.specs.Within.{Within, within-minus}
 
--- x with the other sign where s is negative, as a relation, which shows s and x to a caller's proof
-pub record WithSign (s x r : ℤ) : Type 0 where
-  pub is : r ≡ withSign s x
+-- x with the other sign where `sign` is negative, as a relation, which shows both to a caller's proof
+pub record WithSign (sign x r : ℤ) : Type 0 where
+  pub is : r ≡ withSign sign x
 
 -- it is as large as x
-pub as-large : {M : ℕ} {s x r : ℤ} → WithSign s x r → Within M x → Within M r
-as-large {M} {s} {x} w h = subst (Within M) (sym (w .is)) (either s)
+pub as-large : {M : ℕ} {sign x r : ℤ} → WithSign sign x r → Within M x → Within M r
+as-large {M} {sign} {x} w h = subst (Within M) (sym (w .is)) (either sign)
   where
-    either : (s : ℤ) → Within M (withSign s x)
+    either : (sign : ℤ) → Within M (withSign sign x)
     either (pos n) = h
     either (negsuc n) = within-minus x h
 

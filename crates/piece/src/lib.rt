@@ -47,12 +47,12 @@ fn in_units(unit: i64, h: i64, z: i64, m: i32, n: i32) -> Units
     Units { rise, a, b }
 }
 
-// x, with the other sign where s is negative.
-fn turned(s: i64, x: i64) -> i64
+// x, with the other sign where `sign` is negative.
+fn turned(sign: i64, x: i64) -> i64
     requires { ⌜ Within 3000000000 x ⌝ }
-    ensures { λ r. ⌜ WithSign s x r ⌝ }
+    ensures { λ r. ⌜ WithSign sign x r ⌝ }
 {
-    if s < 0 {
+    if sign < 0 {
         return -x;
     }
     x

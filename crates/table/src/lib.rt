@@ -1,4 +1,4 @@
-// The table of a curve: three lists, of which entry i belongs to point i, and why one is refused. Piece i runs from point i to point i + 1.
+// The table of a curve: a slope unit and three lists, of which entry i belongs to point i, and why one is refused. Piece i runs from point i to point i + 1.
 mod changed;
 mod pieces;
 mod refusals;

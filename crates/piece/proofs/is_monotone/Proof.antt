@@ -35,10 +35,10 @@ turned-requires-2 : tie.Need-turned-requires-2
 turned-requires-2 c κs = sized (given (c .before)) (search code depth 30 fits 9000) tt
 
 width : (c : tie.After-turned) → WithSign (c .before .args .z) (c .before .args .h) (c .turned .result)
-width c = plainly₂ (given (c .before)) (λ (s x : ℤ). WithSign s x (c .turned .result)) (c .turned .ensures) (search arguments depth 30 fits 9000) tt
+width c = plainly₂ (given (c .before)) (λ (sign x : ℤ). WithSign sign x (c .turned .result)) (c .turned .ensures) (search arguments depth 30 fits 9000) tt
 
 rise : (c : tie.After-turned2) → let z = c .before .before .args .z in WithSign z z (c .turned2 .result)
-rise c = plainly₂ (given (c .before .before)) (λ (s x : ℤ). WithSign s x (c .turned2 .result)) (c .turned2 .ensures) (search arguments depth 30 fits 9000) tt
+rise c = plainly₂ (given (c .before .before)) (λ (sign x : ℤ). WithSign sign x (c .turned2 .result)) (c .turned2 .ensures) (search arguments depth 30 fits 9000) tt
 
 -- as large as they were
 width-size : (c : tie.After-turned) → Within 1024 (c .turned .result)

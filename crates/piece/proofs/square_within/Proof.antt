@@ -24,7 +24,7 @@ turned-requires c κs = as-coded₁ (given c) (Within 3000000000) (search argume
 
 -- what it has over, without its sign
 size : (c : tie.After-turned) → let o = c .before .args .over in WithSign o o (c .turned .result)
-size c = plainly₂ (given (c .before)) (λ (s x : ℤ). WithSign s x (c .turned .result)) (c .turned .ensures) (search arguments depth 30 fits 9000) tt
+size c = plainly₂ (given (c .before)) (λ (sign x : ℤ). WithSign sign x (c .turned .result)) (c .turned .ensures) (search arguments depth 30 fits 9000) tt
 
 abbrev with-size : tie.After-turned → List Known
 with-size c = known (c .turned .result) 3000000000 (as-large (size c) (c .before .pre .over)) ∷ given (c .before)

@@ -9,7 +9,7 @@ use Rattle.piece.proofs.turned.Statement.{statement}
 use Rattle.piece.proofs.turned.Tie as tie
 
 abbrev given : tie.Start → List Known
-given s = held w64 (s .args .s) (s .fits .s) ∷ known (s .args .x) _ (s .pre) ∷ []
+given s = held w64 (s .args .sign) (s .fits .sign) ∷ known (s .args .x) _ (s .pre) ∷ []
 
 sub-result : tie.Need-sub-result
 sub-result c = fits (given (c .before)) (search code depth 30 fits 9000) tt
@@ -17,12 +17,12 @@ sub-result c = fits (given (c .before)) (search code depth 30 fits 9000) tt
 returns : tie.Need-returns
 returns c =
     let s = c .before in
-    record { is = plain-is {Γ = given s} (search code depth 30 fits 9000) tt ∙ sym (sign-down (s .args .s) (s .args .x) (passed (given s) (c .if1 .taken) (search tests depth 30 fits 9000) tt)) }
+    record { is = plain-is {Γ = given s} (search code depth 30 fits 9000) tt ∙ sym (sign-down (s .args .sign) (s .args .x) (passed (given s) (c .if1 .taken) (search tests depth 30 fits 9000) tt)) }
 
 returns-2 : tie.Need-returns-2
 returns-2 c =
     let s = c .before in
-    record { is = plain-is {Γ = given s} (search code depth 30 fits 9000) tt ∙ sym (sign-up (s .args .s) (s .args .x) (failed (given s) (c .if1 .left) (search tests depth 30 fits 9000) tt)) }
+    record { is = plain-is {Γ = given s} (search code depth 30 fits 9000) tt ∙ sym (sign-up (s .args .sign) (s .args .x) (failed (given s) (c .if1 .left) (search tests depth 30 fits 9000) tt)) }
 
 pub turned-spec : {M : Type 1} → statement M
 turned-spec = tie.close (tie.spec sub-result returns returns-2)
