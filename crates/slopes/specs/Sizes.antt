@@ -23,7 +23,11 @@ pub record Up (h z : ℤ) : Type 0 where
   pub within : PieceWithin h z
   pub up : pos 0 <ℤ z
 
--- m is the mean, as a relation, which shows the pieces to a caller's proof
+-- p is the product of two rises, as a relation, which shows them to a caller's proof
+pub record Product (z₁ z₂ p : ℤ) : Type 0 where
+  pub is : p ≡ z₁ *ℤ z₂
+
+-- m is the mean, likewise
 pub record Mean (U h₁ z₁ h₂ z₂ m : ℤ) : Type 0 where
   pub is : m ≡ mean U h₁ z₁ h₂ z₂
 

@@ -4,7 +4,7 @@ ghost use lib.IntN.{pos};
 ghost use lib.Signed.{_≤ℤ_};
 ghost use Rattle.cubic.specs.Slopes.{secantSlope, endSlope, innerSlope};
 ghost use Rattle.rules.specs.Known.{UnitSize};
-ghost use Rattle.slopes.specs.Sizes.{PieceWithin, Up, Mean, End};
+ghost use Rattle.slopes.specs.Sizes.{PieceWithin, Up, Product, Mean, End};
 
 // Where there are two points alone: the slope of their piece, rounded toward zero.
 pub(crate) fn secant(unit: i64, h: i64, z: i64) -> i32
@@ -51,14 +51,15 @@ pub(crate) fn end(unit: i64, h1: i64, z1: i64, h2: i64, z2: i64) -> i32
     rising_end(unit, h1, z1, h2, z2)
 }
 
-// Between two rises: their slopes' mean, rounded down. Within the limits the product above stays below 2^61, and the mean below 2^30.
-fn mean(unit: i64, h1: i64, z1: i64, h2: i64, z2: i64) -> i32
+// Between two rises: their slopes' mean, rounded down, with the product of the rises, which is there already. Within the limits the product above stays below 2^61, and the mean below 2^30.
+fn mean(unit: i64, h1: i64, z1: i64, h2: i64, z2: i64, both: i64) -> i32
     requires { ⌜ UnitSize unit ⌝ }
     requires { ⌜ Up h1 z1 ⌝ }
     requires { ⌜ Up h2 z2 ⌝ }
+    requires { ⌜ Product z1 z2 both ⌝ }
     ensures { λ r. ⌜ Mean unit h1 z1 h2 z2 r ⌝ }
 {
-    let above = 3 * unit * (h1 + h2) * z1 * z2;
+    let above = 3 * unit * (h1 + h2) * both;
     let below = (h1 + 2 * h2) * h1 * z2 + (2 * h1 + h2) * h2 * z1;
     let steepness = above / below;
     steepness as i32
@@ -71,11 +72,12 @@ pub(crate) fn inner(unit: i64, h1: i64, z1: i64, h2: i64, z2: i64) -> i32
     requires { ⌜ PieceWithin h2 z2 ⌝ }
     ensures { λ r. ⌜ r ≡ innerSlope unit h1 z1 h2 z2 ⌝ }
 {
-    if z1 * z2 <= 0 {
+    let both = z1 * z2;
+    if both <= 0 {
         return 0;
     }
     if z1 < 0 {
-        return -mean(unit, h1, -z1, h2, -z2);
+        return -mean(unit, h1, -z1, h2, -z2, both);
     }
-    mean(unit, h1, z1, h2, z2)
+    mean(unit, h1, z1, h2, z2, both)
 }

@@ -1,17 +1,18 @@
 -- `slopes::rule::inner` meets its contract: each way through the code is one case of the rule.
-use mathlib.Core.Path.{_≡_, sym, _∙_, ap, subst}
+use mathlib.Core.Path.{_≡_, refl, sym, _∙_, ap, subst}
 use mathlib.Core.List.{List, [], _∷_}
 use lib.IntN.{ℤ, pos, negℤ, _*ℤ_}
 use lib.Signed.{_≤ℤ_, _<ℤ_}
 use mir.Facts.{toZ-ofZ}
+use Rattle.integers.specs.Ring.{ring, quote}
 use Rattle.integers.specs.Within.{Within}
 use Rattle.integers.specs.Sizes.{Known, known, fits, plain-is, code}
 use Rattle.integers.specs.Tests.{tests, passed, passed-at-most, failed}
-use Rattle.integers.specs.Arguments.{arguments, plainly₅, as-coded₁, as-coded₂}
+use Rattle.integers.specs.Arguments.{arguments, plainly₅, as-coded₁, as-coded₂, as-coded₃}
 use Rattle.cubic.specs.Slopes.{mean}
 use Rattle.cubic.specs.Inner.{inner-level, both-up, inner-up, both-down, inner-down}
 use Rattle.rules.specs.Known.{UnitSize, known-unit, known-width, known-rise}
-use Rattle.slopes.specs.Sizes.{Up, Mean, turned, mean-within}
+use Rattle.slopes.specs.Sizes.{Up, Product, Mean, turned, mean-within}
 use Rattle.slopes.proofs.rule.inner.Statement.{statement}
 use Rattle.slopes.proofs.rule.inner.Tie as tie
 
@@ -24,8 +25,8 @@ given s =
     ∷ known-rise (s .args .z2) (s .pre .1 .1 .rise)
     ∷ []
 
-mul-if1 : tie.Need-mul-if1
-mul-if1 c = fits (given c) (search code depth 30 fits 9000) tt
+mul-both : tie.Need-mul-both
+mul-both c = fits (given c) (search code depth 30 fits 9000) tt
 
 returns : tie.Need-returns
 returns c =
@@ -52,11 +53,14 @@ falls c =
     let u = both-down (s .args .unit) (s .args .h1) (s .args .z1) (s .args .h2) (s .args .z2) (product (c .before)) (down c) in
     (record { within = turned (s .pre .1 .0); up = u .0 }, record { within = turned (s .pre .1 .1); up = u .1 })
 
+twice-turned : (c : tie.Then2) → let s = c .before .before .args in Product (negℤ (s .z1)) (negℤ (s .z2)) (s .z1 *ℤ s .z2)
+twice-turned c = let s = c .before .before .args in record { is = ring (s .z1 ∷ s .z2 ∷ []) (search quote depth 30 fits 9000) tt }
+
 mean-requires : tie.Need-mean-requires
 mean-requires c κs =
     let Γ = given (c .before .before) in (
       as-coded₁ Γ UnitSize (search arguments depth 30 fits 9000) tt (c .before .before .pre .0),
-      (as-coded₂ Γ Up (search arguments depth 30 fits 9000) tt (falls c .0), as-coded₂ Γ Up (search arguments depth 30 fits 9000) tt (falls c .1)),
+      (as-coded₂ Γ Up (search arguments depth 30 fits 9000) tt (falls c .0), (as-coded₂ Γ Up (search arguments depth 30 fits 9000) tt (falls c .1), as-coded₃ Γ Product (search arguments depth 30 fits 9000) tt (twice-turned c))),
     )
 
 fallen : (c : tie.After-mean) → let s = c .before .before .before .args in c .mean .result ≡ mean (s .unit) (s .h1) (negℤ (s .z1)) (s .h2) (negℤ (s .z2))
@@ -91,7 +95,7 @@ mean-requires-2 c κs =
       as-coded₁ (given s) UnitSize (search arguments depth 30 fits 9000) tt (s .pre .0),
       (
         as-coded₂ (given s) Up (search arguments depth 30 fits 9000) tt (record { within = s .pre .1 .0; up = u .0 }),
-        as-coded₂ (given s) Up (search arguments depth 30 fits 9000) tt (record { within = s .pre .1 .1; up = u .1 }),
+        (as-coded₂ (given s) Up (search arguments depth 30 fits 9000) tt (record { within = s .pre .1 .1; up = u .1 }), as-coded₃ (given s) Product (search arguments depth 30 fits 9000) tt (record { is = refl })),
       ),
     )
 
@@ -106,7 +110,7 @@ pub inner-spec : {M : Type 1} → statement M
 inner-spec =
     tie.close
     (tie.spec
-    mul-if1
+    mul-both
     returns
     sub-mean
     sub-mean-2
