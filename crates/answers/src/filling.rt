@@ -7,7 +7,7 @@ use decimals::append_natural;
 use words::append;
 
 // A number as it is written: -0 too, which a float can be.
-#[derive(Drop)]
+#[derive(Clone, Copy)]
 pub struct Signed {
     pub negative: bool,
     pub size: u64,

@@ -1,4 +1,6 @@
 // A change of one point of a table.
+#![tactic(auto)]
+
 ghost use Rattle.table.specs.Table.{table};
 ghost use Rattle.change.specs.Change.{Changed};
 

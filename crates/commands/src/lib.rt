@@ -1,4 +1,6 @@
 // What a line of the workbench asks for: its command with its numbers, or what is wrong with it. Nothing is done here, and no function asks anything of its caller.
+#![tactic(auto)]
+
 mod findings;
 mod naming;
 mod numbers;
@@ -7,7 +9,7 @@ mod parsing;
 pub use parsing::parse;
 
 // The three lists of the workbench.
-#[derive(Drop)]
+#[derive(Clone, Copy)]
 pub enum List {
     Knots,
     Values,
@@ -15,7 +17,7 @@ pub enum List {
 }
 
 // The width and the rise of a piece, and the slopes at its ends.
-#[derive(Drop)]
+#[derive(Clone, Copy)]
 pub struct Piece {
     pub h: i64,
     pub z: i64,
@@ -24,7 +26,7 @@ pub struct Piece {
 }
 
 // A point by its number, of which a table need not have one, and the knot and the value that it is to have.
-#[derive(Drop)]
+#[derive(Clone, Copy)]
 pub struct Point {
     pub number: i64,
     pub knot: i32,
@@ -32,7 +34,7 @@ pub struct Point {
 }
 
 // What is wrong with a line. A number is named by its place among the words after the command, from 1. `BeyondUnsigned`: it is not in 0 to 4294967295.
-#[derive(Drop)]
+#[derive(Clone, Copy)]
 pub enum Fault {
     TooLong,
     NoCommand,
@@ -46,7 +48,7 @@ pub enum Fault {
 }
 
 // A line without a command asks for nothing. A line may set the slope unit to any number of 32 bits without a sign: only a table refuses one.
-#[derive(Drop)]
+#[derive(Clone, Copy)]
 pub enum Command {
     Nothing,
     Wrong(Fault),
@@ -63,7 +65,7 @@ pub enum Command {
 }
 
 // What is found where the words of a command are looked at.
-#[derive(Drop)]
+#[derive(Clone, Copy)]
 pub(crate) enum Finding {
     Clear,
     Faulty(Fault),

@@ -1,4 +1,6 @@
 // The value of a table's curve at a position.
+#![tactic(auto)]
+
 ghost use Rattle.std.specs.Prelude.{◌≡◌, ◌+ℤ◌};
 ghost use Rattle.std.specs.Int.{w32};
 ghost use Rattle.std.proofs.Common.{SFits};
@@ -14,7 +16,7 @@ use rules::Refusal;
 
 // The value at a position, or the refusal and the value 0.
 #[repr(C)]
-#[derive(Drop)]
+#[derive(Clone, Copy)]
 pub struct Value {
     pub refusal: Refusal,
     pub value: i32,

@@ -1,4 +1,6 @@
 // Whole decimal numbers as text: read exactly or not at all, and written so that they read back. No function asks anything of its caller.
+#![tactic(auto)]
+
 mod reading;
 mod writing;
 

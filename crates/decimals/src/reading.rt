@@ -9,7 +9,7 @@ const MOST: u64 = 9223372036854775807;
 const MOST_NEGATIVE: u64 = 9223372036854775808;
 
 // What text says as a number of 64 bits. `TooLarge`: it is a number beyond them, on either side of 0.
-#[derive(Drop)]
+#[derive(Clone, Copy)]
 pub enum Number {
     Is(i64),
     NotDecimal,
@@ -17,7 +17,7 @@ pub enum Number {
 }
 
 // What text says as a number of 32 bits, in the same way.
-#[derive(Drop)]
+#[derive(Clone, Copy)]
 pub enum Number32 {
     Is(i32),
     NotDecimal,
@@ -25,7 +25,7 @@ pub enum Number32 {
 }
 
 // What digits say, held against a limit.
-#[derive(Drop)]
+#[derive(Clone, Copy)]
 enum Magnitude {
     Is(u64),
     NotDecimal,

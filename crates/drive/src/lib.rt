@@ -1,4 +1,6 @@
 // What a drive is told at a position, in floats.
+#![tactic(auto)]
+
 ghost use Rattle.std.specs.Prelude.{◌≡◌};
 ghost use Rattle.std.specs.Float.{binary64};
 ghost use Rattle.integers.specs.Promise.{Decided};
@@ -16,7 +18,7 @@ use position::{Sought, Spot};
 use rules::Refusal;
 
 // Where the curve is at a position, as the drive takes it: left + numerator / denominator. Each is a whole number, exactly.
-#[derive(Drop)]
+#[derive(Clone, Copy)]
 pub struct Floats {
     pub left: f64,
     pub numerator: f64,
@@ -24,14 +26,14 @@ pub struct Floats {
 }
 
 // A dwell at a level, or a move.
-#[derive(Drop)]
+#[derive(Clone, Copy)]
 pub enum Answer {
     Dwell(f64),
     Move(Floats),
 }
 
 // The refusal, 0 at place 0 for none, and what the drive is told: a dwell at level 0 where it is refused.
-#[derive(Drop)]
+#[derive(Clone, Copy)]
 pub struct Driven {
     pub refusal: Refusal,
     pub answer: Answer,

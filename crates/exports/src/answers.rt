@@ -28,7 +28,7 @@ const MOVE: u32 = 1;
 
 // A verdict, or the refusal and none.
 #[repr(C)]
-#[derive(Drop)]
+#[derive(Clone, Copy)]
 pub struct Judgement {
     pub refusal: Refusal,
     pub verdict: u32,
@@ -36,7 +36,7 @@ pub struct Judgement {
 
 // What the drive is told, left + numerator / denominator, or the refusal and a dwell at 0. A dwell has its level on the left, 0 above and 1 below.
 #[repr(C)]
-#[derive(Drop)]
+#[derive(Clone, Copy)]
 pub struct Told {
     pub refusal: Refusal,
     pub kind: u32,

@@ -18,7 +18,7 @@ const TOO_LARGE: u32 = 2;
 
 // A word of a line, from its first position to the one after its last; or none, and 0 for both.
 #[repr(C)]
-#[derive(Drop)]
+#[derive(Clone, Copy)]
 pub struct Span {
     pub found: bool,
     pub start: usize,
@@ -27,7 +27,7 @@ pub struct Span {
 
 // A number of 64 bits; or why the text says none, and 0.
 #[repr(C)]
-#[derive(Drop)]
+#[derive(Clone, Copy)]
 pub struct Read {
     pub kind: u32,
     pub value: i64,
@@ -35,7 +35,7 @@ pub struct Read {
 
 // The same of 32 bits.
 #[repr(C)]
-#[derive(Drop)]
+#[derive(Clone, Copy)]
 pub struct Read32 {
     pub kind: u32,
     pub value: i32,

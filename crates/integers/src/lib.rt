@@ -1,4 +1,6 @@
 // Signed arithmetic that is what the integers say: no result here is computed from a wrapped number.
+#![tactic(auto)]
+
 ghost use Rattle.std.specs.Prelude.{◌≡◌, ◌-ℤ◌};
 ghost use Rattle.integers.specs.Promise.{Decided, Quotient, Rounded, Between};
 

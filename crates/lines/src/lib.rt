@@ -1,9 +1,11 @@
 // Lines out of a stream that comes in chunks of bytes: a line is put together, piece by piece, in a buffer that is lent from chunk to chunk. Nothing is asked of the caller.
+#![tactic(auto)]
+
 ghost use Rattle.std.specs.Prelude.{◌≡◌};
 ghost use Rattle.lines.specs.Taking.{behind, Taking};
 
 // What a piece of a line leaves: how many bytes of the line are held then, where the next line starts, and whether this one has ended.
-#[derive(Drop)]
+#[derive(Clone, Copy)]
 pub struct Taken {
     pub held: usize,
     pub next: usize,

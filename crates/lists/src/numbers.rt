@@ -8,7 +8,7 @@ ghost use Rattle.lists.specs.Next.{numbers_next};
 pub const ROOM: usize = 2048;
 
 // The number that the next word says, and where the word ends; nothing where there is no word, or where it says none.
-#[derive(Drop)]
+#[derive(Clone, Copy)]
 enum Next {
     Is(i32, usize),
     Nothing,

@@ -1,11 +1,13 @@
 // The workbench: reads a command a line from standard input, and writes an answer a line to standard output.
+#![tactic(auto)]
+
 mod desk;
 mod feed;
 mod say;
 
 // What is known between two reads: how many bytes of a line are held, which line that is and whether it is whole, how many bytes the last read brought and
 // where in them the next line starts, and whether more may come.
-#[derive(Drop)]
+#[derive(Clone, Copy)]
 pub struct Input {
     pub held: usize,
     pub number: u64,
@@ -16,7 +18,7 @@ pub struct Input {
 }
 
 // How many numbers each list holds, the slope unit, and whether what was to be answered could be written.
-#[derive(Drop)]
+#[derive(Clone, Copy)]
 pub struct Kept {
     pub knots: usize,
     pub values: usize,

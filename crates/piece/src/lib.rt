@@ -1,4 +1,6 @@
 // The verdict on one piece: rising, falling, flat or bends, or the refusal of a piece outside the limits. And the cubic of a piece.
+#![tactic(auto)]
+
 ghost use Rattle.integers.specs.Promise.{Decided};
 ghost use Rattle.integers.specs.Within.{Within};
 ghost use Rattle.cubic.specs.Piece.{NeverAgainst, Monotone};
@@ -12,7 +14,7 @@ ghost use Rattle.piece.specs.Cubic.{UnitsOf, Coefficients};
 use rules::Refusal;
 
 // What is answered of one piece.
-#[derive(Drop)]
+#[derive(Clone, Copy)]
 pub enum Verdict {
     Rising,
     Falling,
@@ -22,7 +24,7 @@ pub enum Verdict {
 }
 
 // The cubic of a piece, first·t·h² + second·t²·h + third·t³, by its coefficients.
-#[derive(Drop)]
+#[derive(Clone, Copy)]
 pub struct Cubic {
     pub first: i64,
     pub second: i64,
@@ -30,7 +32,7 @@ pub struct Cubic {
 }
 
 // Z, a and b of the exact rules.
-#[derive(Drop)]
+#[derive(Clone, Copy)]
 struct Units {
     rise: i64,
     a: i64,

@@ -1,4 +1,6 @@
 // Where a position lies: the piece that it belongs to, once the whole table is accepted, or why there is none.
+#![tactic(auto)]
+
 ghost use Rattle.std.specs.Prelude.{◌≡◌, ◌<◌, length};
 ghost use Rattle.integers.specs.Promise.{Decided};
 ghost use Rattle.table.specs.Table.{table};
@@ -12,14 +14,14 @@ use rules::Refusal;
 
 // A position's piece, or the refusal and piece 0.
 #[repr(C)]
-#[derive(Drop)]
+#[derive(Clone, Copy)]
 pub struct Place {
     pub refusal: Refusal,
     pub piece: usize,
 }
 
 // A position in its piece: the piece's number, left value, width, rise and slopes, and the counts from its left knot to the position.
-#[derive(Drop)]
+#[derive(Clone, Copy)]
 pub struct Spot {
     pub piece: usize,
     pub left: i32,
@@ -31,7 +33,7 @@ pub struct Spot {
 }
 
 // Where a position lies in a table: outside its knots, which is 6, or in a piece.
-#[derive(Drop)]
+#[derive(Clone, Copy)]
 pub enum Sought {
     Outside,
     On(Spot),

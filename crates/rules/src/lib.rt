@@ -1,4 +1,6 @@
 // The numbers of the exact rules: the limits, the slope units, and how a refusal is answered.
+#![tactic(auto)]
+
 ghost use Rattle.std.specs.Prelude.{◌≡◌};
 ghost use Rattle.integers.specs.Promise.{Decided};
 ghost use Rattle.rules.specs.Limits.{unit, UnitWithin, CountWithin, WidthWithin, RiseWithin};
@@ -6,7 +8,7 @@ ghost use Rattle.rules.specs.Known.{UnitSize};
 
 // A refusal: its number in the exact rules, and the place that it names. Both are 0 where nothing is refused.
 #[repr(C)]
-#[derive(Drop)]
+#[derive(Clone, Copy)]
 pub struct Refusal {
     pub number: u32,
     pub place: usize,

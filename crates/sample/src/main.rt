@@ -1,5 +1,7 @@
 // The sampling program: it holds the points (0, 0) and (3, -10), builds their slopes, and prints the value of the curve at each position.
 // Slopes are in 1/2^8 of a value per count.
+#![tactic(auto)]
+
 const S: u32 = 8;
 
 const KNOTS: [i32; 2] = [0, 3];

@@ -7,7 +7,7 @@ use crate::pieces;
 
 // A point's number, and the knot and the value that it shall have.
 #[repr(C)]
-#[derive(Drop)]
+#[derive(Clone, Copy)]
 pub struct Change {
     pub point: usize,
     pub knot: i32,

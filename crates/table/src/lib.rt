@@ -1,4 +1,6 @@
 // The table of a curve: a slope unit and three lists, of which entry i belongs to point i, and why one is refused. Piece i runs from point i to point i + 1.
+#![tactic(auto)]
+
 mod changed;
 mod pieces;
 mod refusals;

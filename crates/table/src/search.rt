@@ -13,14 +13,14 @@ use crate::{changed, pieces};
 use rules::Refusal;
 
 // The points that are asked: as they are, or as they would be after a change.
-#[derive(Drop)]
+#[derive(Clone, Copy)]
 pub(crate) enum Points {
     Now,
     After(Change),
 }
 
 // A point as the search asks it, the end of one piece and the start of the next. Knot and value are widened, so that their differences fit.
-#[derive(Drop)]
+#[derive(Clone, Copy)]
 struct End {
     knot: i64,
     value: i64,

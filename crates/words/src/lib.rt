@@ -1,4 +1,6 @@
 // Words out of a line of bytes, and lines out of a stream of them. No function asks anything of its caller.
+#![tactic(auto)]
+
 mod split;
 mod stream;
 

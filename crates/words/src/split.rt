@@ -3,7 +3,7 @@ ghost use Rattle.std.specs.Prelude.{◌≡◌, length, drop};
 ghost use Rattle.words.specs.Words.{is_separator, run_end, alike, next_word, words_of, part_of};
 
 // A word of a line, from its first position to the one after its last.
-#[derive(Drop)]
+#[derive(Clone, Copy)]
 pub enum Word {
     At { start: usize, end: usize },
     Nothing,
