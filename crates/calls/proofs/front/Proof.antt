@@ -5,11 +5,11 @@ use lib.Seq.{length-take-le}
 use Rattle.calls.proofs.front.Statement.{statement}
 use Rattle.calls.proofs.front.Tie as tie
 
-slice_aggregate_result : tie.Need-slice-aggregate-result
-slice_aggregate_result c = sym (length-take-le _ _ c.before.requires)
+slice_bounds-result-end : tie.Need-slice_bounds-result-end
+slice_bounds-result-end c = sym (length-take-le _ _ c.before.requires)
 
 returns : tie.Need-returns
 returns c = search rules
 
 pub front_spec : {M : Type 1} → statement M
-front_spec = tie.close (tie.spec slice_aggregate_result returns)
+front_spec = tie.close (tie.spec slice_bounds-result-end returns)

@@ -4,47 +4,47 @@ use borrow.Author.Rules.{rules}
 use Rattle.calls.proofs.piece_at_each.Statement.{statement}
 use Rattle.calls.proofs.piece_at_each.Tie as tie
 
-abbrev invariant_loop : tie.invariant_loop
-invariant_loop knots level points position₀ position = (position ≤ 2 * points + 1) × (points ≤ 1024)
+abbrev invariant-loop-position : tie.invariant-loop-position
+invariant-loop-position knots level points position₀ position = (position ≤ 2 * points + 1) × (points ≤ 1024)
 
-abbrev decreases_loop : tie.decreases_loop
-decreases_loop knots level points position₀ position = 2 * points + 1 - position
+abbrev decreases-loop-position : tie.decreases-loop-position
+decreases-loop-position knots level points position₀ position = 2 * points + 1 - position
 
-loop_holds : tie.Need-loop-init invariant_loop decreases_loop
-loop_holds c = search rules
+loop-position-init : tie.Need-loop-position-init invariant-loop-position decreases-loop-position
+loop-position-init c = search rules
 
-mul_loop : tie.Need-overflow-mul-loop invariant_loop decreases_loop
-mul_loop c = search rules
+overflow_mul-points : tie.Need-overflow_mul-points invariant-loop-position decreases-loop-position
+overflow_mul-points c = search rules
 
-cast_piece_at : tie.Need-overflow-cast-piece-at invariant_loop decreases_loop
-cast_piece_at c = search rules
+overflow_cast-position : tie.Need-overflow_cast-position invariant-loop-position decreases-loop-position
+overflow_cast-position c = search rules
 
-piece_at_requires : tie.Need-piece-at-requires invariant_loop decreases_loop
-piece_at_requires c κs = search rules
+piece_at-requires : tie.Need-piece_at-requires invariant-loop-position decreases-loop-position
+piece_at-requires c κs = search rules
 
-add_position : tie.Need-overflow-add-position invariant_loop decreases_loop
-add_position c = search rules
+overflow_add-position : tie.Need-overflow_add-position invariant-loop-position decreases-loop-position
+overflow_add-position c = search rules
 
-loop_less : tie.Need-loop-smaller invariant_loop decreases_loop
-loop_less c = search rules
+loop-position-smaller : tie.Need-loop-position-smaller invariant-loop-position decreases-loop-position
+loop-position-smaller c = search rules
 
-loop_again : tie.Need-loop-preserved invariant_loop decreases_loop
-loop_again c = search rules
+loop-position-preserved : tie.Need-loop-position-preserved invariant-loop-position decreases-loop-position
+loop-position-preserved c = search rules
 
-returns : tie.Need-returns invariant_loop decreases_loop
+returns : tie.Need-returns invariant-loop-position decreases-loop-position
 returns c = search rules
 
 pub piece_at_each_spec : {M : Type 1} → statement M
 piece_at_each_spec =
     tie.close
     (tie.spec
-    invariant_loop
-    decreases_loop
-    loop_holds
-    mul_loop
-    cast_piece_at
-    piece_at_requires
-    add_position
-    loop_less
-    loop_again
+    invariant-loop-position
+    decreases-loop-position
+    loop-position-init
+    overflow_mul-points
+    overflow_cast-position
+    piece_at-requires
+    overflow_add-position
+    loop-position-smaller
+    loop-position-preserved
     returns)

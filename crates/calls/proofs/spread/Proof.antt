@@ -5,47 +5,47 @@ use borrow.Author.Rules.{rules}
 use Rattle.calls.proofs.spread.Statement.{statement}
 use Rattle.calls.proofs.spread.Tie as tie
 
-abbrev invariant_loop : tie.invariant_loop
-invariant_loop knots₀ i₀ knots i = i ≤ 1024
+abbrev invariant-loop-i : tie.invariant-loop-i
+invariant-loop-i knots₀ i₀ knots i = i ≤ 1024
 
-abbrev decreases_loop : tie.decreases_loop
-decreases_loop knots₀ i₀ knots i = 1024 - i
+abbrev decreases-loop-i : tie.decreases-loop-i
+decreases-loop-i knots₀ i₀ knots i = 1024 - i
 
-loop_holds : tie.Need-loop-init invariant_loop decreases_loop
-loop_holds c = search rules
+loop-i-init : tie.Need-loop-i-init invariant-loop-i decreases-loop-i
+loop-i-init c = search rules
 
-knot_requires : tie.Need-knot-requires invariant_loop decreases_loop
-knot_requires c κs = search rules
+knot-requires : tie.Need-knot-requires invariant-loop-i decreases-loop-i
+knot-requires c κs = search rules
 
-mul_t5 : tie.Need-overflow-mul-t5 invariant_loop decreases_loop
-mul_t5 c = search rules
+offset_bounds-knots-i : tie.Need-offset_bounds-knots-i invariant-loop-i decreases-loop-i
+offset_bounds-knots-i c = search rules
 
-element_set_from_knots : tie.Need-element-set-from-knots invariant_loop decreases_loop
-element_set_from_knots c = search rules
+bounds-knots-i : tie.Need-bounds-knots-i invariant-loop-i decreases-loop-i
+bounds-knots-i c = search rules
 
-add_i : tie.Need-overflow-add-i invariant_loop decreases_loop
-add_i c = search rules
+overflow_add-i : tie.Need-overflow_add-i invariant-loop-i decreases-loop-i
+overflow_add-i c = search rules
 
-loop_less : tie.Need-loop-smaller invariant_loop decreases_loop
-loop_less c = search rules
+loop-i-smaller : tie.Need-loop-i-smaller invariant-loop-i decreases-loop-i
+loop-i-smaller c = search rules
 
-loop_again : tie.Need-loop-preserved invariant_loop decreases_loop
-loop_again c = search rules
+loop-i-preserved : tie.Need-loop-i-preserved invariant-loop-i decreases-loop-i
+loop-i-preserved c = search rules
 
-returns : tie.Need-returns invariant_loop decreases_loop
+returns : tie.Need-returns invariant-loop-i decreases-loop-i
 returns c = search rules
 
 pub spread_spec : {M : Type 1} → statement M
 spread_spec =
     tie.close
     (tie.spec
-    invariant_loop
-    decreases_loop
-    loop_holds
-    knot_requires
-    mul_t5
-    element_set_from_knots
-    add_i
-    loop_less
-    loop_again
+    invariant-loop-i
+    decreases-loop-i
+    loop-i-init
+    knot-requires
+    offset_bounds-knots-i
+    bounds-knots-i
+    overflow_add-i
+    loop-i-smaller
+    loop-i-preserved
     returns)

@@ -18,21 +18,21 @@ use Rattle.position.specs.Refused.{table_refused, position_refused, none_refused
 use Rattle.curve.proofs.evaluate.Statement.{statement}
 use Rattle.curve.proofs.evaluate.Tie as tie
 
-check_requires : tie.Need-check-requires
-check_requires c κs = search rules
+check-refusal-requires : tie.Need-check-refusal-requires
+check-refusal-requires c κs = search rules
 
 abbrev curve_of : tie.Start → Table
 curve_of s = table s.args.s s.args.knots.now s.args.values.now s.args.slopes.now
 
-returns : tie.Need-returns
-returns c =
-    record { refusal = table_refused c.before.before.check.ensures c.if1.true; value = refused_answer c.if1.true }
+returns-then-refusal-ne-DONE : tie.Need-returns-then-refusal-ne-DONE
+returns-then-refusal-ne-DONE c =
+    record { refusal = table_refused c.before.before.check-refusal.ensures c.if-refusal-ne-DONE.true; value = refused_answer c.if-refusal-ne-DONE.true }
 
-accepted : (c : tie.Else1) → Accepted (curve_of c.before.before.before)
-accepted c = accepted_table c.if1.false c.before.before.check.ensures
+accepted : (c : tie.Else-refusal-ne-DONE) → Accepted (curve_of c.before.before.before)
+accepted c = accepted_table c.if-refusal-ne-DONE.false c.before.before.check-refusal.ensures
 
-seek_requires : tie.Need-seek-requires
-seek_requires c κs = ((accepted c).limits, (accepted c).slopes)
+seek-requires : tie.Need-seek-requires
+seek-requires c κs = record { points_within = (accepted c).limits; slopes_len = (accepted c).slopes }
 
 -- where the position lies, said of the position itself
 sought : (c : tie.After-seek) → let a = c.before.before.before.before.args in SoughtIn a.knots.now a.values.now a.slopes.now c.before.before.before.before.args.position c.seek.result
@@ -40,63 +40,63 @@ sought c =
     let s = c.before.before.before.before in
     subst (λ (x : ℤ). SoughtIn s.args.knots.now s.args.values.now s.args.slopes.now x c.seek.result) (to_z-of_z s.ranges.position) c.seek.ensures
 
-enum_told : tie.Need-enum-told
-enum_told c = search rules
+enum_told-1 : tie.Need-enum_told-1
+enum_told-1 c = search rules
 
-returns_2 : tie.Need-returns-2
-returns_2 c =
+returns-in-Outside : tie.Need-returns-in-Outside
+returns-in-Outside c =
     let k = c.before.before in
     let e = k.before in
     record {
-      refusal = position_refused e.before.before.check.ensures e.if1.false (sought_outside (subst (SoughtIn _ _ _ _) c.enum_told.given.1 (sought k)));
+      refusal = position_refused e.before.before.check-refusal.ensures e.if-refusal-ne-DONE.false (sought_outside (subst (SoughtIn _ _ _ _) c.enum_told-1.given.1 (sought k)));
       value = refused_answer (λ n. omega (arith, n));
     }
 
-enum_known_spot : tie.Need-enum-known-spot
-enum_known_spot c = search rules
+enum_known-spot : tie.Need-enum_known-spot
+enum_known-spot c = search rules
 
 -- within the knots, and where in its piece
-spot : (c : tie.After-spot)
+spot : (c : tie.In-On-2)
     → let s = c.before.before.before.before.before.before in
-    let r = c.spot.given.0.0 in
+    let r = c.spot-1.given.0.0 in
     WithinKnots s.args.knots.now s.args.position × SpotOn s.args.knots.now s.args.values.now s.args.slopes.now r.piece s.args.position r.left r.h r.z r.m r.n r.t
-spot c = sought_on (subst (SoughtIn _ _ _ _) c.spot.given.1 (sought c.before.before))
+spot c = sought_on (subst (SoughtIn _ _ _ _) c.spot-1.given.1 (sought c.before.before))
 
 -- where nothing refuses
-abbrev here : tie.After-spot → tie.Else1
+abbrev here : tie.In-On-2 → tie.Else-refusal-ne-DONE
 here c = c.before.before.before
 
-unit_requires : tie.Need-unit-requires
-unit_requires c κs = (accepted (here c.before)).unit
+unit-requires : tie.Need-unit-requires
+unit-requires c κs = (accepted (here c.before)).unit
 
 -- the unit, as it is handed on
 handed : (c : tie.After-unit) → to_z w64 (of_z w64 c.unit.result) ≡ unit (here c.before.before).before.before.before.args.s
-handed c = returned w64 c.unit.type-inv c.unit.ensures.0
+handed c = returned w64 c.unit.type_inv c.unit.ensures.value
 
-value_on_requires : tie.Need-value-on-requires
-value_on_requires c κs =
+value_on-value-requires : tie.Need-value_on-value-requires
+value_on-value-requires c κs =
     let k = c.before.before in
-    let r = k.spot.given.0.0 in
-    (subst (λ (U : ℤ). InPiece U r.h r.z r.m r.n r.t) (sym (handed c)) (inside_spot (accepted (here k)) (spot k).1), (spot k).1.right_fits)
+    let r = k.spot-1.given.0.0 in
+    record { in_piece = subst (λ (U : ℤ). InPiece U r.h r.z r.m r.n r.t) (sym (handed c)) (inside_spot (accepted (here k)) (spot k).1); sfits = (spot k).1.right_fits }
 
-returns_3 : tie.Need-returns-3
-returns_3 c =
+returns-in-On : tie.Need-returns-in-On
+returns-in-On c =
     let u = c.before in
     let k = u.before.before in
     let e = here k in
     let on = spot k in
-    let at = k.spot.given.0.0 in
+    let at = k.spot-1.given.0.0 in
     record {
-      refusal = none_refused e.before.before.check.ensures e.if1.left on.0;
+      refusal = none_refused e.before.before.check-refusal.ensures e.if-refusal-ne-DONE.left on.0;
       value =
-          right_answer e.if1.left
+          right_answer e.if-refusal-ne-DONE.left
           (record {
             piece = at.piece;
             belongs = on.1.belongs;
             is =
-                returned w32 c.value_on.type-inv
-                (of_spot (λ (left h z m n t : ℤ). c.value_on.result ≡ left +ℤ risen (unit e.before.before.before.args.s) h z m n t) on.1
-                (c.value_on.ensures ∙ ap (λ (U : ℤ). at.left +ℤ risen U at.h at.z at.m at.n at.t) (handed u)));
+                returned w32 c.value_on-value.type_inv
+                (of_spot (λ (left h z m n t : ℤ). c.value_on-value.result ≡ left +ℤ risen (unit e.before.before.before.args.s) h z m n t) on.1
+                (c.value_on-value.ensures ∙ ap (λ (U : ℤ). at.left +ℤ risen U at.h at.z at.m at.n at.t) (handed u)));
           });
     }
 
@@ -104,12 +104,12 @@ pub evaluate_spec : {M : Type 1} → statement M
 evaluate_spec =
     tie.close
     (tie.spec
-    check_requires
-    returns
-    seek_requires
-    enum_told
-    enum_known_spot
-    unit_requires
-    value_on_requires
-    returns_2
-    returns_3)
+    check-refusal-requires
+    returns-then-refusal-ne-DONE
+    seek-requires
+    enum_told-1
+    enum_known-spot
+    unit-requires
+    value_on-value-requires
+    returns-in-Outside
+    returns-in-On)

@@ -20,41 +20,41 @@ use Rattle.drive.proofs.answer_on.Tie as tie
 abbrev given : tie.Start → List Known
 given s = known_width s.args.p.h s.requires.width ∷ known_rise s.args.p.z s.requires.rise ∷ []
 
-too_large_requires : tie.Need-too-large-requires
-too_large_requires c κs =
+too_large-requires : tie.Need-too_large-requires
+too_large-requires c κs =
     let s = c.before.before in
-    (as_coded₁ (given s) WidthWithin (search arguments depth 30 fits 9000) tt s.requires.width, as_coded₁ (given s) RiseWithin (search arguments depth 30 fits 9000) tt s.requires.rise)
+    record { width_within = as_coded₁ (given s) WidthWithin (search arguments depth 30 fits 9000) tt s.requires.width; rise_within = as_coded₁ (given s) RiseWithin (search arguments depth 30 fits 9000) tt s.requires.rise }
 
 -- whether the piece is too large, said of the piece itself
-large : (c : tie.After-too-large) → let s = c.before.before.before.args.p in Decided (TooLarge s.h s.z) c.too_large.result
+large : (c : tie.After-too_large) → let s = c.before.before.before.args.p in Decided (TooLarge s.h s.z) c.too_large.result
 large c =
     plainly₂ (given c.before.before.before) (λ (h z : ℤ). Decided (TooLarge h z) c.too_large.result) c.too_large.ensures (search arguments depth 30 fits 9000) tt
 
-refused_requires : tie.Need-refused-requires
-refused_requires c κs = search rules
+refused-requires : tie.Need-refused-requires
+refused-requires c κs = search rules
 
-returns : tie.Need-returns
-returns c =
+returns-then-too_large : tie.Need-returns-then-too_large
+returns-then-too_large c =
     let t = c.before in
     let a = t.before.before.before.before.args in
     let p = a.p in
-    subst₂ (λ (r : Refusal) (t : Telling). AnsweredOn a.unit p.piece p.left p.h p.z p.m p.n p.t r.number r.place t) (sym c.refused.ensures.0) (sym c.refused.ensures.1)
-    (refused_there (told (large t.before) t.if1.true))
+    subst₂ (λ (r : Refusal) (t : Telling). AnsweredOn a.unit p.piece p.left p.h p.z p.m p.n p.t r.number r.place t) (sym c.refused.ensures.refusal_value) (sym c.refused.ensures.answer_value)
+    (refused_there (told (large t.before) t.if-too_large.true))
 
-told_requires : tie.Need-told-requires
-told_requires c κs =
+told-answer-requires : tie.Need-told-answer-requires
+told-answer-requires c κs =
     let s = c.before.before.before.before in
     let p = s.args.p in
-    (subst (λ (U : ℤ). InPiece U p.h p.z p.m p.n p.t) (sym (to_z-of_z s.ranges.unit)) s.requires, denied (large c.before) c.if1.false)
+    record { in_piece = subst (λ (U : ℤ). InPiece U p.h p.z p.m p.n p.t) (sym (to_z-of_z s.ranges.unit)) s.requires; fact = denied (large c.before) c.if-too_large.false }
 
-returns_2 : tie.Need-returns-2
-returns_2 c =
+returns : tie.Need-returns
+returns c =
     let s = c.before.before.before.before.before in
     let p = s.args.p in
-    told_there (denied (large c.before.before) c.before.if1.false)
-    (subst (λ (U : ℤ). ToldIn U p.left p.h p.z p.m p.n p.t (told_of c.told.result)) (to_z-of_z s.ranges.unit) c.told.ensures)
+    told_there (denied (large c.before.before) c.before.if-too_large.false)
+    (subst (λ (U : ℤ). ToldIn U p.left p.h p.z p.m p.n p.t (told_of c.told-answer.result)) (to_z-of_z s.ranges.unit) c.told-answer.ensures)
 
 pub answer_on_spec : {M : Type 1} → statement M
 answer_on_spec =
     tie.close
-    (tie.spec too_large_requires refused_requires returns told_requires returns_2)
+    (tie.spec too_large-requires refused-requires returns-then-too_large told-answer-requires returns)

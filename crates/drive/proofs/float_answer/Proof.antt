@@ -22,19 +22,19 @@ use Rattle.drive.specs.Refused.{AnsweredOn, as_evaluated, driving_on}
 use Rattle.drive.proofs.float_answer.Statement.{statement}
 use Rattle.drive.proofs.float_answer.Tie as tie
 
-check_requires : tie.Need-check-requires
-check_requires c κs = search rules
+check-refusal-requires : tie.Need-check-refusal-requires
+check-refusal-requires c κs = search rules
 
 abbrev curve_of : tie.Start → Table
 curve_of s = table s.args.s s.args.knots.now s.args.values.now s.args.slopes.now
 
 -- ---- refused as an evaluation is
 
-refused_requires : tie.Need-refused-requires
-refused_requires c κs = search rules
+refused-requires : tie.Need-refused-requires
+refused-requires c κs = search rules
 
-refused_requires_2 : tie.Need-refused-requires-2
-refused_requires_2 c κs = search rules
+refused-requires-in-Outside : tie.Need-refused-requires-in-Outside
+refused-requires-in-Outside c κs = search rules
 
 -- by what `refused` says of its answer
 rests : {t : Table} {x : ℤ} {r q : Refusal} {a : Telling} → r ≡ q → a ≡ resting → (q.number ≡ 0 → ⊥) → Given (HoldsAt t x) evaluation_order q.number q.place → Driving t x r.number r.place a
@@ -42,16 +42,16 @@ rests {t} {x} e f n g =
     subst₂ (λ (r : Refusal) (a : Telling). Driving t x r.number r.place a) (sym e) (sym f)
     (record { refusal = stopped (8 ∷ []) n (as_evaluated g); answer = refused_answer n })
 
-returns : tie.Need-returns
-returns c =
+returns-then-refusal-ne-DONE : tie.Need-returns-then-refusal-ne-DONE
+returns-then-refusal-ne-DONE c =
     let e = c.before in
-    rests c.refused.ensures.0 c.refused.ensures.1 e.if1.true (table_refused e.before.before.check.ensures e.if1.true)
+    rests c.refused.ensures.refusal_value c.refused.ensures.answer_value e.if-refusal-ne-DONE.true (table_refused e.before.before.check-refusal.ensures e.if-refusal-ne-DONE.true)
 
-accepted : (c : tie.Else1) → Accepted (curve_of c.before.before.before)
-accepted c = accepted_table c.if1.false c.before.before.check.ensures
+accepted : (c : tie.Else-refusal-ne-DONE) → Accepted (curve_of c.before.before.before)
+accepted c = accepted_table c.if-refusal-ne-DONE.false c.before.before.check-refusal.ensures
 
-seek_requires : tie.Need-seek-requires
-seek_requires c κs = ((accepted c).limits, (accepted c).slopes)
+seek-requires : tie.Need-seek-requires
+seek-requires c κs = record { points_within = (accepted c).limits; slopes_len = (accepted c).slopes }
 
 -- where the position lies, said of the position itself
 sought : (c : tie.After-seek) → let a = c.before.before.before.before.args in SoughtIn a.knots.now a.values.now a.slopes.now c.before.before.before.before.args.position c.seek.result
@@ -59,69 +59,69 @@ sought c =
     let s = c.before.before.before.before in
     subst (λ (x : ℤ). SoughtIn s.args.knots.now s.args.values.now s.args.slopes.now x c.seek.result) (to_z-of_z s.ranges.position) c.seek.ensures
 
-enum_told : tie.Need-enum-told
-enum_told c = search rules
+enum_told-1 : tie.Need-enum_told-1
+enum_told-1 c = search rules
 
-returns_2 : tie.Need-returns-2
-returns_2 c =
+returns-in-Outside : tie.Need-returns-in-Outside
+returns-in-Outside c =
     let k = c.before.before.before in
     let e = k.before in
-    rests c.refused2.ensures.0 c.refused2.ensures.1 (λ n. omega (arith, n))
-    (position_refused e.before.before.check.ensures e.if1.false (sought_outside (subst (SoughtIn _ _ _ _) c.before.enum_told.given.1 (sought k))))
+    rests c.refused-in-Outside.ensures.refusal_value c.refused-in-Outside.ensures.answer_value (λ n. omega (arith, n))
+    (position_refused e.before.before.check-refusal.ensures e.if-refusal-ne-DONE.false (sought_outside (subst (SoughtIn _ _ _ _) c.before.enum_told-1.given.1 (sought k))))
 
 -- ---- answered in the position's piece
 
-enum_known_spot : tie.Need-enum-known-spot
-enum_known_spot c = search rules
+enum_known-spot : tie.Need-enum_known-spot
+enum_known-spot c = search rules
 
 -- within the knots, and where in its piece
-spot : (c : tie.After-spot)
+spot : (c : tie.In-On-2)
     → let s = c.before.before.before.before.before.before in
-    let r = c.spot.given.0.0 in
+    let r = c.spot-1.given.0.0 in
     WithinKnots s.args.knots.now s.args.position × SpotOn s.args.knots.now s.args.values.now s.args.slopes.now r.piece s.args.position r.left r.h r.z r.m r.n r.t
-spot c = sought_on (subst (SoughtIn _ _ _ _) c.spot.given.1 (sought c.before.before))
+spot c = sought_on (subst (SoughtIn _ _ _ _) c.spot-1.given.1 (sought c.before.before))
 
 -- where nothing before it refuses
-abbrev here : tie.After-spot → tie.Else1
+abbrev here : tie.In-On-2 → tie.Else-refusal-ne-DONE
 here c = c.before.before.before
 
-unit_requires : tie.Need-unit-requires
-unit_requires c κs = (accepted (here c.before)).unit
+unit-requires : tie.Need-unit-requires
+unit-requires c κs = (accepted (here c.before)).unit
 
 -- the unit, as it is handed on
 handed : (c : tie.After-unit) → to_z w64 (of_z w64 c.unit.result) ≡ unit (here c.before.before).before.before.before.args.s
-handed c = returned w64 c.unit.type-inv c.unit.ensures.0
+handed c = returned w64 c.unit.type_inv c.unit.ensures.value
 
-answer_on_requires : tie.Need-answer-on-requires
-answer_on_requires c κs =
+answer_on-requires : tie.Need-answer_on-requires
+answer_on-requires c κs =
     let k = c.before.before in
-    let r = k.spot.given.0.0 in
+    let r = k.spot-1.given.0.0 in
     subst (λ (U : ℤ). InPiece U r.h r.z r.m r.n r.t) (sym (handed c)) (inside_spot (accepted (here k)) (spot k).1)
 
-returns_3 : tie.Need-returns-3
-returns_3 c =
+returns-in-On : tie.Need-returns-in-On
+returns-in-On c =
     let u = c.before in
     let k = u.before.before in
     let e = here k in
     let on = spot k in
-    let at = k.spot.given.0.0 in
-    let r = c.answer-on.result in
-    driving_on (accepted e) on.1.belongs e.if1.left (none_refused e.before.before.check.ensures e.if1.left on.0)
+    let at = k.spot-1.given.0.0 in
+    let r = c.answer_on.result in
+    driving_on (accepted e) on.1.belongs e.if-refusal-ne-DONE.left (none_refused e.before.before.check-refusal.ensures e.if-refusal-ne-DONE.left on.0)
     (of_spot (λ (left h z m n t : ℤ). AnsweredOn (unit e.before.before.before.args.s) at.piece left h z m n t r.refusal.number r.refusal.place (told_of r.answer)) on.1
-    (subst (λ (U : ℤ). AnsweredOn U at.piece at.left at.h at.z at.m at.n at.t r.refusal.number r.refusal.place (told_of r.answer)) (handed u) c.answer-on.ensures))
+    (subst (λ (U : ℤ). AnsweredOn U at.piece at.left at.h at.z at.m at.n at.t r.refusal.number r.refusal.place (told_of r.answer)) (handed u) c.answer_on.ensures))
 
 pub float_answer_spec : {M : Type 1} → statement M
 float_answer_spec =
     tie.close
     (tie.spec
-    check_requires
-    refused_requires
-    returns
-    seek_requires
-    enum_told
-    refused_requires_2
-    enum_known_spot
-    unit_requires
-    answer_on_requires
-    returns_2
-    returns_3)
+    check-refusal-requires
+    refused-requires
+    returns-then-refusal-ne-DONE
+    seek-requires
+    enum_told-1
+    refused-requires-in-Outside
+    enum_known-spot
+    unit-requires
+    answer_on-requires
+    returns-in-Outside
+    returns-in-On)

@@ -21,38 +21,38 @@ use Rattle.drive.proofs.told.Statement.{statement}
 use Rattle.drive.proofs.told.Tie as tie
 
 -- what the types and its place say of the unit and of a spot's numbers
-spot : (c : tie.After-struct-told) → let p = c.before.before.args.p in Held c.before.before.args.unit p.left p.h p.z p.m p.n p.t
-spot c = held_fields c.before.before.ranges.unit c.struct_told.given
+spot : (c : tie.After-struct_told-1) → let p = c.before.before.args.p in Held c.before.before.args.unit p.left p.h p.z p.m p.n p.t
+spot c = held_fields c.before.before.ranges.unit c.struct_told-1.given
 
-abbrev given : tie.After-struct-told → List Known
-given c = let s = c.before.before in known_rise s.args.p.z s.requires.0.rise ∷ held w32 s.args.p.left (spot c).left_fits ∷ []
+abbrev given : tie.After-struct_told-1 → List Known
+given c = let s = c.before.before in known_rise s.args.p.z s.requires.in_piece.rise ∷ held w32 s.args.p.left (spot c).left_fits ∷ []
 
-returns : tie.Need-returns
-returns c =
+returns-then-p-eq0 : tie.Need-returns-then-p-eq0
+returns-then-p-eq0 c =
     let p = c.before.before in
     let Γ = given p.before in
     let left = p.before.before.before.args.p.left in
-    dwells (zero_yes Γ p.if1.true (search zeros depth 30 fits 9000) tt) (cast_is binary64 Γ {x = to_z w32 (of_z w32 left)} (search code depth 30 fits 9000) tt)
+    dwells (zero_yes Γ p.if-p-eq0.true (search zeros depth 30 fits 9000) tt) (cast_is binary64 Γ {x = to_z w32 (of_z w32 left)} (search code depth 30 fits 9000) tt)
 
-returns_2 : tie.Need-returns-2
-returns_2 c =
+returns : tie.Need-returns
+returns c =
     let e = c.before.before.before.before.before.before.before in
     let s = spot e.before in
     let r = c.moving.result in
     let says = c.moving.ensures in
-    moves (zero_no (given e.before) e.if1.false (search zeros depth 30 fits 9000) tt)
+    moves (zero_no (given e.before) e.if-p-eq0.false (search zeros depth 30 fits 9000) tt)
     (subst (λ (v : ℤ). Exactly binary64 v r.left) (to_z-of_z s.left_fits) says.0)
     (of_held (λ (U h z m n t : ℤ). Exactly binary64 (numerator U h z m n t) r.numerator) s says.1.0)
     (of_held (λ (U h z m n t : ℤ). Exactly binary64 (denominator U h) r.denominator) s says.1.1)
 
-int_to_float_level : tie.Need-int-to-float-level
-int_to_float_level c = search rules
+int_to_float-level : tie.Need-int_to_float-level
+int_to_float-level c = search rules
 
-moving_requires : tie.Need-moving-requires
-moving_requires c κs =
+moving-requires : tie.Need-moving-requires
+moving-requires c κs =
     let p = c.before.before.before.before.before.before.before in
     let pre = p.before.before.requires in
-    (as_held InPiece (spot p) pre.0, as_held (λ (U h z m n t : ℤ). TooLarge h z → ⊥) (spot p) pre.1)
+    record { in_piece = as_held InPiece (spot p) pre.0; fact = as_held (λ (U h z m n t : ℤ). TooLarge h z → ⊥) (spot p) pre.1 }
 
 pub told_spec : {M : Type 1} → statement M
-told_spec = tie.close (tie.spec int_to_float_level returns moving_requires returns_2)
+told_spec = tie.close (tie.spec int_to_float-level returns-then-p-eq0 moving-requires returns)

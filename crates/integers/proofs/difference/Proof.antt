@@ -9,18 +9,18 @@ use Rattle.integers.proofs.difference.Tie as tie
 abbrev given : tie.Start → List Known
 given s = held w32 s.args.left s.ranges.left ∷ held w32 s.args.right s.ranges.right ∷ []
 
-cast_result : tie.Need-overflow-cast-result
-cast_result c = fits (given c) (search code depth 30 fits 9000) tt
+overflow_cast-result : tie.Need-overflow_cast-result
+overflow_cast-result c = fits (given c) (search code depth 30 fits 9000) tt
 
-cast_result_2 : tie.Need-overflow-cast-result-2
-cast_result_2 c = fits (given c) (search code depth 30 fits 9000) tt
+overflow_cast-result-2 : tie.Need-overflow_cast-result-2
+overflow_cast-result-2 c = fits (given c) (search code depth 30 fits 9000) tt
 
-sub_result : tie.Need-overflow-sub-result
-sub_result c = fits (given c) (search code depth 30 fits 9000) tt
+overflow_sub-result : tie.Need-overflow_sub-result
+overflow_sub-result c = fits (given c) (search code depth 30 fits 9000) tt
 
 -- without its casts the code is right minus left, as it stands
 returns : tie.Need-returns
 returns c = plain_is {Γ = given c} (search code depth 30 fits 9000) tt ∙ refl
 
 pub difference_spec : {M : Type 1} → statement M
-difference_spec = tie.close (tie.spec cast_result cast_result_2 sub_result returns)
+difference_spec = tie.close (tie.spec overflow_cast-result overflow_cast-result-2 overflow_sub-result returns)

@@ -11,20 +11,20 @@ use borrow.Author.Rules.{rules}
 use Rattle.lines.proofs.take.Statement.{statement}
 use Rattle.lines.proofs.take.Tie as tie
 
-find_requires : tie.Need-find-requires
-find_requires c κs = search rules
+find-end-requires : tie.Need-find-end-requires
+find-end-requires c κs = search rules
 
-part_requires : tie.Need-part-requires
-part_requires c κs = search rules
+part-requires : tie.Need-part-requires
+part-requires c κs = search rules
 
-append_requires : tie.Need-append-requires
-append_requires c κs = search rules
+append-n-requires : tie.Need-append-n-requires
+append-n-requires c κs = search rules
 
-following_requires : tie.Need-following-requires
-following_requires c κs = search rules
+following-requires : tie.Need-following-requires
+following-requires c κs = search rules
 
-same_length : tie.Need-same-length
-same_length c = search rules
+shape_of-line : tie.Need-shape_of-line
+shape_of-line c = search rules
 
 taken : {before : List ℕ} {held : ℕ} {chunk : List ℕ} {from : ℕ} {after : List ℕ} {n next : ℕ} (end : ℕ) (piece : List ℕ)
     → end ≡ end_of chunk from → piece ≡ part_of chunk from end → Appended before held piece after n → next ≡ behind end (length chunk)
@@ -40,9 +40,9 @@ returns : tie.Need-returns
 returns c =
     let appended = c.before.before.before in
     let found = appended.before.before.before in
-    taken found.find.result appended.before.part.result.now found.find.ensures appended.before.part.ensures appended.append.ensures c.following.ensures
+    taken found.find-end.result appended.before.part.result.now found.find-end.ensures appended.before.part.ensures appended.append-n.ensures c.following.ensures
 
 pub take_spec : {M : Type 1} → statement M
 take_spec =
     tie.close
-    (tie.spec find_requires part_requires append_requires following_requires same_length returns)
+    (tie.spec find-end-requires part-requires append-n-requires following-requires shape_of-line returns)

@@ -8,36 +8,33 @@ use Rattle.piece.proofs.in_units.Tie as tie
 
 abbrev given : tie.Start → List Known
 given s =
-    known_unit s.args.unit s.requires.0 ∷ known s.args.h _ s.requires.1.0 ∷ known s.args.z _ s.requires.1.1 ∷ held w32 s.args.m s.ranges.m ∷ held w32 s.args.n s.ranges.n ∷ []
+    known_unit s.args.unit s.requires.unit_size ∷ known s.args.h _ s.requires.within ∷ known s.args.z _ s.requires.within_2 ∷ held w32 s.args.m s.ranges.m ∷ held w32 s.args.n s.ranges.n ∷ []
 
-mul_rise : tie.Need-overflow-mul-rise
-mul_rise c = fits (given c) (search code depth 30 fits 9000) tt
+overflow_mul-rise : tie.Need-overflow_mul-rise
+overflow_mul-rise c = fits (given c) (search code depth 30 fits 9000) tt
 
-cast_a : tie.Need-overflow-cast-a
-cast_a c = fits (given c) (search code depth 30 fits 9000) tt
+overflow_cast-a : tie.Need-overflow_cast-a
+overflow_cast-a c = fits (given c) (search code depth 30 fits 9000) tt
 
-mul_a : tie.Need-overflow-mul-a
-mul_a c = fits (given c) (search code depth 30 fits 9000) tt
+overflow_mul-a : tie.Need-overflow_mul-a
+overflow_mul-a c = fits (given c) (search code depth 30 fits 9000) tt
 
-cast_b : tie.Need-overflow-cast-b
-cast_b c = fits (given c) (search code depth 30 fits 9000) tt
+overflow_cast-b : tie.Need-overflow_cast-b
+overflow_cast-b c = fits (given c) (search code depth 30 fits 9000) tt
 
-mul_b : tie.Need-overflow-mul-b
-mul_b c = fits (given c) (search code depth 30 fits 9000) tt
+overflow_mul-b : tie.Need-overflow_mul-b
+overflow_mul-b c = fits (given c) (search code depth 30 fits 9000) tt
 
 returns : tie.Need-returns
-returns c = (
-  record {
+returns c = record { units_of = record {
     rise_is = plain_is {Γ = given c} (search code depth 30 fits 9000) tt;
     a_is = plain_is {Γ = given c} (search code depth 30 fits 9000) tt;
     b_is = plain_is {Γ = given c} (search code depth 30 fits 9000) tt;
-  },
-  record {
+  }; moderate = record {
     rise = sized (given c) (search code depth 30 fits 9000) tt;
     start = sized (given c) (search code depth 30 fits 9000) tt;
     end = sized (given c) (search code depth 30 fits 9000) tt;
-  },
-)
+  } }
 
 pub in_units_spec : {M : Type 1} → statement M
-in_units_spec = tie.close (tie.spec mul_rise cast_a mul_a cast_b mul_b returns)
+in_units_spec = tie.close (tie.spec overflow_mul-rise overflow_cast-a overflow_mul-a overflow_cast-b overflow_mul-b returns)

@@ -19,44 +19,44 @@ use Rattle.piece.proofs.is_monotone.Tie as tie
 -- what the limits and the types say of the arguments
 abbrev given : tie.Start → List Known
 given s =
-    known_unit s.args.unit s.requires.0
-    ∷ known_width s.args.h s.requires.1.0
-    ∷ known_rise s.args.z s.requires.1.1
+    known_unit s.args.unit s.requires.unit_size
+    ∷ known_width s.args.h s.requires.width_within
+    ∷ known_rise s.args.z s.requires.rise_within
     ∷ held w32 s.args.m s.ranges.m
     ∷ held w32 s.args.n s.ranges.n
     ∷ []
 
 -- ---- turned
 
-turned_requires : tie.Need-turned-requires
-turned_requires c κs = sized (given c) (search code depth 30 fits 9000) tt
+turned-requires : tie.Need-turned-requires
+turned-requires c κs = sized (given c) (search code depth 30 fits 9000) tt
 
-turned_requires_2 : tie.Need-turned-requires-2
-turned_requires_2 c κs = sized (given c.before) (search code depth 30 fits 9000) tt
+turned-requires-2 : tie.Need-turned-requires-2
+turned-requires-2 c κs = sized (given c.before) (search code depth 30 fits 9000) tt
 
 width : (c : tie.After-turned) → WithSign c.before.args.z c.before.args.h c.turned.result
 width c = plainly₂ (given c.before) (λ (sign x : ℤ). WithSign sign x c.turned.result) c.turned.ensures (search arguments depth 30 fits 9000) tt
 
-rise : (c : tie.After-turned2) → let z = c.before.before.args.z in WithSign z z c.turned2.result
-rise c = plainly₂ (given c.before.before) (λ (sign x : ℤ). WithSign sign x c.turned2.result) c.turned2.ensures (search arguments depth 30 fits 9000) tt
+rise : (c : tie.After-turned-2) → let z = c.before.before.args.z in WithSign z z c.turned-2.result
+rise c = plainly₂ (given c.before.before) (λ (sign x : ℤ). WithSign sign x c.turned-2.result) c.turned-2.ensures (search arguments depth 30 fits 9000) tt
 
 -- as large as they were
 width_size : (c : tie.After-turned) → Within 1024 c.turned.result
 width_size c = as_large (width c) (sized (given c.before) (search code depth 30 fits 9000) tt)
 
-rise_size : (c : tie.After-turned2) → Within 1048576 c.turned2.result
+rise_size : (c : tie.After-turned-2) → Within 1048576 c.turned-2.result
 rise_size c = as_large (rise c) (sized (given c.before.before) (search code depth 30 fits 9000) tt)
 
-abbrev after : tie.After-turned2 → List Known
+abbrev after : tie.After-turned-2 → List Known
 after c =
-    known c.before.turned.result 1024 (width_size c.before) ∷ known c.turned2.result 1048576 (rise_size c) ∷ given c.before.before
+    known c.before.turned.result 1024 (width_size c.before) ∷ known c.turned-2.result 1048576 (rise_size c) ∷ given c.before.before
 
-in_units_requires : tie.Need-in-units-requires
-in_units_requires c κs =
-    (as_coded₁ (after c) UnitSize (search arguments depth 30 fits 9000) tt c.before.before.requires.0, (sized (after c) (search code depth 30 fits 9000) tt, sized (after c) (search code depth 30 fits 9000) tt))
+in_units-u-requires : tie.Need-in_units-u-requires
+in_units-u-requires c κs =
+    record { unit_size = as_coded₁ (after c) UnitSize (search arguments depth 30 fits 9000) tt c.before.before.requires.unit_size; within = sized (after c) (search code depth 30 fits 9000) tt; within_2 = sized (after c) (search code depth 30 fits 9000) tt }
 
 -- its Z, a and b
-module _ (c : tie.After-in-units) where
+module _ (c : tie.After-in_units-u) where
   abbrev s : tie.Start
   s = c.before.before.before
 
@@ -83,8 +83,8 @@ module _ (c : tie.After-in-units) where
 
 -- ---- the test
 
-never_against_requires : tie.Need-never-against-requires
-never_against_requires c κs =
+never_against-requires : tie.Need-never_against-requires
+never_against-requires c κs =
     let p = c.before.before.before in as_coded₃ (made p) Moderate (search arguments depth 30 fits 9000) tt (moderate p)
 
 returns : tie.Need-returns
@@ -96,4 +96,4 @@ returns c =
     (λ e m. denied c.never_against.ensures e (as_coded₃ (made p) NeverAgainst (search arguments depth 30 fits 9000) tt (so_turned p (turned_complete a.unit a.h a.z a.m a.n m))))
 
 pub is_monotone_spec : {M : Type 1} → statement M
-is_monotone_spec = tie.close (tie.spec turned_requires turned_requires_2 in_units_requires never_against_requires returns)
+is_monotone_spec = tie.close (tie.spec turned-requires turned-requires-2 in_units-u-requires never_against-requires returns)

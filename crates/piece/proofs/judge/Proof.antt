@@ -27,64 +27,64 @@ given s =
 
 -- ---- refused
 
-unit_within_requires : tie.Need-unit-within-requires
-unit_within_requires c κs = search rules
+unit_within-requires : tie.Need-unit_within-requires
+unit_within-requires c κs = search rules
 
-returns : tie.Need-returns
-returns c = unit_refused (denied c.before.unit_within.ensures (not-true _ c.if1.true))
+returns-then-not-unit_within : tie.Need-returns-then-not-unit_within
+returns-then-not-unit_within c = unit_refused (denied c.before.unit_within.ensures (not-true _ c.if-not-unit_within.true))
 
-in_nine : (c : tie.Else1) → UnitWithin c.before.before.args.s
-in_nine c = told c.before.unit_within.ensures (not-false _ c.if1.false)
+in_nine : (c : tie.Else-not-unit_within) → UnitWithin c.before.before.args.s
+in_nine c = told c.before.unit_within.ensures (not-false _ c.if-not-unit_within.false)
 
-width_within_requires : tie.Need-width-within-requires
-width_within_requires c κs = search rules
+width_within-requires : tie.Need-width_within-requires
+width_within-requires c κs = search rules
 
-returns_2 : tie.Need-returns-2
-returns_2 c =
+returns-then-not-width_within : tie.Need-returns-then-not-width_within
+returns-then-not-width_within c =
     let p = c.before.before in
     width_refused (in_nine p)
-    (λ w. denied c.before.width_within.ensures (not-true _ c.if2.true) (subst WidthWithin (sym (to_z-of_z p.before.before.ranges.h)) w))
+    (λ w. denied c.before.width_within.ensures (not-true _ c.if-not-width_within.true) (subst WidthWithin (sym (to_z-of_z p.before.before.ranges.h)) w))
 
-rise_within_requires : tie.Need-rise-within-requires
-rise_within_requires c κs = search rules
+rise_within-requires : tie.Need-rise_within-requires
+rise_within-requires c κs = search rules
 
-abbrev start : tie.Else2 → tie.Start
+abbrev start : tie.Else-not-width_within → tie.Start
 start c = c.before.before.before.before
 
-wide_enough : (c : tie.Else2) → WidthWithin (to_z w64 (of_z w64 (start c).args.h))
-wide_enough c = told c.before.width_within.ensures (not-false _ c.if2.false)
+wide_enough : (c : tie.Else-not-width_within) → WidthWithin (to_z w64 (of_z w64 (start c).args.h))
+wide_enough c = told c.before.width_within.ensures (not-false _ c.if-not-width_within.false)
 
-width : (c : tie.Else2) → WidthWithin (start c).args.h
+width : (c : tie.Else-not-width_within) → WidthWithin (start c).args.h
 width c = subst WidthWithin (to_z-of_z (start c).ranges.h) (wide_enough c)
 
-returns_3 : tie.Need-returns-3
-returns_3 c =
+returns-then-not-rise_within : tie.Need-returns-then-not-rise_within
+returns-then-not-rise_within c =
     let p = c.before.before in
     rise_refused (in_nine p.before.before) (width p)
-    (λ r. denied c.before.rise_within.ensures (not-true _ c.if3.true) (subst RiseWithin (sym (to_z-of_z (start p).ranges.z)) r))
+    (λ r. denied c.before.rise_within.ensures (not-true _ c.if-not-rise_within.true) (subst RiseWithin (sym (to_z-of_z (start p).ranges.z)) r))
 
 -- ---- within the limits
 
-risen_enough : (c : tie.Else3) → RiseWithin (to_z w64 (of_z w64 (start c.before.before).args.z))
-risen_enough c = told c.before.rise_within.ensures (not-false _ c.if3.false)
+risen_enough : (c : tie.Else-not-rise_within) → RiseWithin (to_z w64 (of_z w64 (start c.before.before).args.z))
+risen_enough c = told c.before.rise_within.ensures (not-false _ c.if-not-rise_within.false)
 
-rise : (c : tie.Else3) → RiseWithin (start c.before.before).args.z
+rise : (c : tie.Else-not-rise_within) → RiseWithin (start c.before.before).args.z
 rise c = subst RiseWithin (to_z-of_z (start c.before.before).ranges.z) (risen_enough c)
 
-unit_requires : tie.Need-unit-requires
-unit_requires c κs = in_nine c.before.before.before.before
+unit-requires : tie.Need-unit-requires
+unit-requires c κs = in_nine c.before.before.before.before
 
 abbrev with_unit : tie.After-unit → List Known
-with_unit c = known_unit c.unit.result c.unit.ensures.1 ∷ given (start c.before.before.before)
+with_unit c = known_unit c.unit.result c.unit.ensures.unit_size ∷ given (start c.before.before.before)
 
-is_monotone_requires : tie.Need-is-monotone-requires
-is_monotone_requires c κs =
+is_monotone-requires : tie.Need-is_monotone-requires
+is_monotone-requires c κs =
     let e = c.before in
-    (as_coded₁ (with_unit c) UnitSize (search arguments depth 30 fits 9000) tt c.unit.ensures.1, (wide_enough e.before.before, risen_enough e))
+    record { unit_size = as_coded₁ (with_unit c) UnitSize (search arguments depth 30 fits 9000) tt c.unit.ensures.unit_size; width_within = wide_enough e.before.before; rise_within = risen_enough e }
 
 -- where the piece has been looked at
-module _ (c : tie.After-is-monotone) where
-  abbrev within : tie.Else3
+module _ (c : tie.After-is_monotone) where
+  abbrev within : tie.Else-not-rise_within
   within = c.before.before
 
   abbrev s : tie.Start
@@ -95,49 +95,49 @@ module _ (c : tie.After-is-monotone) where
 
   decided : Decided (Monotone (unit s.args.s) s.args.h s.args.z s.args.m s.args.n) c.is_monotone.result
   decided =
-      subst (λ (U : ℤ). Decided (Monotone U s.args.h s.args.z s.args.m s.args.n) c.is_monotone.result) c.before.unit.ensures.0
+      subst (λ (U : ℤ). Decided (Monotone U s.args.h s.args.z s.args.m s.args.n) c.is_monotone.result) c.before.unit.ensures.value
       (plainly₅ (with_unit c.before) (λ (U h z m n : ℤ). Decided (Monotone U h z m n) c.is_monotone.result) c.is_monotone.ensures (search code depth 30 fits 9000) (search arguments depth 30 fits 9000) tt)
 
-returns_4 : tie.Need-returns-4
-returns_4 c =
-    let m = c.before in bent (u m) (width (within m).before.before) (rise (within m)) (denied (decided m) (not-true _ c.if4.true))
+returns-then-not-is_monotone : tie.Need-returns-then-not-is_monotone
+returns-then-not-is_monotone c =
+    let m = c.before in bent (u m) (width (within m).before.before) (rise (within m)) (denied (decided m) (not-true _ c.if-not-is_monotone.true))
 
-is_so : (c : tie.Else4) → let a = (s c.before).args in Monotone (unit a.s) a.h a.z a.m a.n
-is_so c = told (decided c.before) (not-false _ c.if4.false)
+is_so : (c : tie.Else-not-is_monotone) → let a = (s c.before).args in Monotone (unit a.s) a.h a.z a.m a.n
+is_so c = told (decided c.before) (not-false _ c.if-not-is_monotone.false)
 
-returns_5 : tie.Need-returns-5
-returns_5 c =
+returns-then-z-gt0 : tie.Need-returns-then-z-gt0
+returns-then-z-gt0 c =
     let e = c.before in
     let m = e.before in
-    is_rising (u m) (width (within m).before.before) (rise (within m)) (passed (given (s m)) c.if5.true (search tests depth 30 fits 9000) tt) (is_so e)
+    is_rising (u m) (width (within m).before.before) (rise (within m)) (passed (given (s m)) c.if-z-gt0.true (search tests depth 30 fits 9000) tt) (is_so e)
 
-returns_6 : tie.Need-returns-6
-returns_6 c =
+returns-then-z-lt0 : tie.Need-returns-then-z-lt0
+returns-then-z-lt0 c =
     let e = c.before.before in
     let m = e.before in
-    is_falling (u m) (width (within m).before.before) (rise (within m)) (passed (given (s m)) c.if6.true (search tests depth 30 fits 9000) tt) (is_so e)
+    is_falling (u m) (width (within m).before.before) (rise (within m)) (passed (given (s m)) c.if-z-lt0.true (search tests depth 30 fits 9000) tt) (is_so e)
 
-returns_7 : tie.Need-returns-7
-returns_7 c =
+returns : tie.Need-returns
+returns c =
     let e = c.before.before in
     let m = e.before in
     let Γ = given (s m) in
     is_flat (u m) (width (within m).before.before) (rise (within m))
-    (≤ℤ_antisym (failed Γ c.before.if5.false (search tests depth 30 fits 9000) tt) (failed Γ c.if6.false (search tests depth 30 fits 9000) tt)) (is_so e)
+    (≤ℤ_antisym (failed Γ c.before.if-z-gt0.false (search tests depth 30 fits 9000) tt) (failed Γ c.if-z-lt0.false (search tests depth 30 fits 9000) tt)) (is_so e)
 
 pub judge_spec : {M : Type 1} → statement M
 judge_spec =
     tie.close
     (tie.spec
-    unit_within_requires
-    returns
-    width_within_requires
-    returns_2
-    rise_within_requires
-    returns_3
-    unit_requires
-    is_monotone_requires
-    returns_4
-    returns_5
-    returns_6
-    returns_7)
+    unit_within-requires
+    returns-then-not-unit_within
+    width_within-requires
+    returns-then-not-width_within
+    rise_within-requires
+    returns-then-not-rise_within
+    unit-requires
+    is_monotone-requires
+    returns-then-not-is_monotone
+    returns-then-z-gt0
+    returns-then-z-lt0
+    returns)

@@ -48,49 +48,49 @@ given s =
 
 -- ---- what is turned away: whatever is below 0 or above kZ, for any k from 4 on, and what is left has this size
 
-mul_between : tie.Need-overflow-mul-between
-mul_between c = fits (given c) (search code depth 30 fits 9000) tt
+overflow_mul-rise : tie.Need-overflow_mul-rise
+overflow_mul-rise c = fits (given c) (search code depth 30 fits 9000) tt
 
-between_requires : tie.Need-between-requires
-between_requires c κs = search rules
+between-requires : tie.Need-between-requires
+between-requires c κs = search rules
 
-returns : tie.Need-returns
-returns c =
+returns-then-not-between : tie.Need-returns-then-not-between
+returns-then-not-between c =
     let s = c.before.before in
-    fails (λ f. denied c.before.between.ensures (not-true _ c.if1.true)
+    fails (λ f. denied c.before.between.ensures (not-true _ c.if-not-between.true)
     (as_coded₃ (given s) Between (search arguments depth 30 fits 9000) tt (within_times _ s.args.rise tt (start_not_against f) (start_below_four f))))
 
-mul_between_2 : tie.Need-overflow-mul-between-2
-mul_between_2 c = fits (given c.before.before) (search code depth 30 fits 9000) tt
+overflow_mul-rise-2 : tie.Need-overflow_mul-rise-2
+overflow_mul-rise-2 c = fits (given c.before.before) (search code depth 30 fits 9000) tt
 
-between_requires_2 : tie.Need-between-requires-2
-between_requires_2 c κs = search rules
+between-requires-2 : tie.Need-between-requires-2
+between-requires-2 c κs = search rules
 
-returns_2 : tie.Need-returns-2
-returns_2 c =
+returns-then-not-between-2 : tie.Need-returns-then-not-between-2
+returns-then-not-between-2 c =
     let s = c.before.before.before.before in
-    fails (λ f. denied c.before.between2.ensures (not-true _ c.if2.true)
+    fails (λ f. denied c.before.between-2.ensures (not-true _ c.if-not-between-2.true)
     (as_coded₃ (given s) Between (search arguments depth 30 fits 9000) tt (within_times _ s.args.rise tt (end_not_against f) (end_below_four f))))
 
 -- ---- the square, asked of sizes whose products fit
 
-abbrev s : tie.Else2 → tie.Start
+abbrev s : tie.Else-not-between-2 → tie.Start
 s c = c.before.before.before.before
 
-add_square_within : tie.Need-overflow-add-square-within
-add_square_within c = fits (given (s c)) (search code depth 30 fits 9000) tt
+overflow_add-a : tie.Need-overflow_add-a
+overflow_add-a c = fits (given (s c)) (search code depth 30 fits 9000) tt
 
-mul_square_within : tie.Need-overflow-mul-square-within
-mul_square_within c = fits (given (s c)) (search code depth 30 fits 9000) tt
+overflow_mul-rise-3 : tie.Need-overflow_mul-rise-3
+overflow_mul-rise-3 c = fits (given (s c)) (search code depth 30 fits 9000) tt
 
-sub_square_within : tie.Need-overflow-sub-square-within
-sub_square_within c = fits (given (s c)) (search code depth 30 fits 9000) tt
+overflow_sub-a : tie.Need-overflow_sub-a
+overflow_sub-a c = fits (given (s c)) (search code depth 30 fits 9000) tt
 
-square_within_requires : tie.Need-square-within-requires
-square_within_requires c κs =
+square_within-requires : tie.Need-square_within-requires
+square_within-requires c κs =
     let Γ = given (s c) in
-    let a = plainly₃ Γ Between (told c.before.before.before.between.ensures (not-false _ c.before.before.if1.false)) (search arguments depth 30 fits 9000) tt in
-    let b = plainly₃ Γ Between (told c.before.between2.ensures (not-false _ c.if2.false)) (search arguments depth 30 fits 9000) tt in
+    let a = plainly₃ Γ Between (told c.before.before.before.between.ensures (not-false _ c.before.before.if-not-between.false)) (search arguments depth 30 fits 9000) tt in
+    let b = plainly₃ Γ Between (told c.before.between-2.ensures (not-false _ c.if-not-between-2.false)) (search arguments depth 30 fits 9000) tt in
     let Δ = known (s c).args.rise (2 ^ 28) (s c).requires.rise ∷ known (s c).args.a _ (at_most_times _ (s c).requires.rise a) ∷ known (s c).args.b _ (at_most_times _ (s c).requires.rise b) ∷ [] in
     record {
       over = sized Δ (search code depth 30 fits 9000) tt;
@@ -98,34 +98,34 @@ square_within_requires c κs =
       end = sized Δ (search code depth 30 fits 9000) tt;
     }
 
-start_up : (c : tie.Else2) → pos 0 ≤ℤ (s c).args.a
+start_up : (c : tie.Else-not-between-2) → pos 0 ≤ℤ (s c).args.a
 start_up c =
-    (plainly₃ (given (s c)) Between (told c.before.before.before.between.ensures (not-false _ c.before.before.if1.false)) (search arguments depth 30 fits 9000) tt).low
+    (plainly₃ (given (s c)) Between (told c.before.before.before.between.ensures (not-false _ c.before.before.if-not-between.false)) (search arguments depth 30 fits 9000) tt).low
 
-end_up : (c : tie.Else2) → pos 0 ≤ℤ (s c).args.b
+end_up : (c : tie.Else-not-between-2) → pos 0 ≤ℤ (s c).args.b
 end_up c =
-    (plainly₃ (given (s c)) Between (told c.before.between2.ensures (not-false _ c.if2.false)) (search arguments depth 30 fits 9000) tt).low
+    (plainly₃ (given (s c)) Between (told c.before.between-2.ensures (not-false _ c.if-not-between-2.false)) (search arguments depth 30 fits 9000) tt).low
 
-returns_3 : tie.Need-returns-3
-returns_3 c =
+returns : tie.Need-returns
+returns c =
     let e = c.before in
     let Γ = given (s e) in
     decided_by _
-    (λ t. square_accepts (start_up e) (end_up e) (plainly₃ Γ SquareWithin (told c.square-within.ensures t) (search arguments depth 30 fits 9000) tt))
-    (λ t f. denied c.square-within.ensures t (as_coded₃ Γ SquareWithin (search arguments depth 30 fits 9000) tt (square_complete f)))
+    (λ t. square_accepts (start_up e) (end_up e) (plainly₃ Γ SquareWithin (told c.square_within.ensures t) (search arguments depth 30 fits 9000) tt))
+    (λ t f. denied c.square_within.ensures t (as_coded₃ Γ SquareWithin (search arguments depth 30 fits 9000) tt (square_complete f)))
 
 pub never_against_spec : {M : Type 1} → statement M
 never_against_spec =
     tie.close
     (tie.spec
-    mul_between
-    between_requires
-    returns
-    mul_between_2
-    between_requires_2
-    returns_2
-    add_square_within
-    mul_square_within
-    sub_square_within
-    square_within_requires
-    returns_3)
+    overflow_mul-rise
+    between-requires
+    returns-then-not-between
+    overflow_mul-rise-2
+    between-requires-2
+    returns-then-not-between-2
+    overflow_add-a
+    overflow_mul-rise-3
+    overflow_sub-a
+    square_within-requires
+    returns)

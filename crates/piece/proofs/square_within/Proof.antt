@@ -19,8 +19,8 @@ given s =
     ∷ known s.args.b 3000000000 s.requires.end
     ∷ []
 
-turned_requires : tie.Need-turned-requires
-turned_requires c κs = as_coded₁ (given c) (Within 3000000000) (search arguments depth 30 fits 9000) tt c.requires.over
+turned-requires : tie.Need-turned-requires
+turned-requires c κs = as_coded₁ (given c) (Within 3000000000) (search arguments depth 30 fits 9000) tt c.requires.over
 
 -- what it has over, without its sign
 size : (c : tie.After-turned) → let o = c.before.args.over in WithSign o o c.turned.result
@@ -29,11 +29,11 @@ size c = plainly₂ (given c.before) (λ (sign x : ℤ). WithSign sign x c.turne
 abbrev with_size : tie.After-turned → List Known
 with_size c = known c.turned.result 3000000000 (as_large (size c) c.before.requires.over) ∷ given c.before
 
-mul_result : tie.Need-overflow-mul-result
-mul_result c = fits (with_size c) (search code depth 30 fits 9000) tt
+overflow_mul-result : tie.Need-overflow_mul-result
+overflow_mul-result c = fits (with_size c) (search code depth 30 fits 9000) tt
 
-mul_result_2 : tie.Need-overflow-mul-result-2
-mul_result_2 c = fits (with_size c) (search code depth 30 fits 9000) tt
+overflow_mul-result-2 : tie.Need-overflow_mul-result-2
+overflow_mul-result-2 c = fits (with_size c) (search code depth 30 fits 9000) tt
 
 returns : tie.Need-returns
 returns c =
@@ -43,4 +43,4 @@ returns c =
     (λ e i. clash_ℤ (failed (with_size c) e (search tests depth 30 fits 9000) tt) (subst (λ (x : ℤ). (a.over *ℤ x) ≤ℤ (a.a *ℤ a.b)) (sym (size c).is) i.within))
 
 pub square_within_spec : {M : Type 1} → statement M
-square_within_spec = tie.close (tie.spec turned_requires mul_result mul_result_2 returns)
+square_within_spec = tie.close (tie.spec turned-requires overflow_mul-result overflow_mul-result-2 returns)

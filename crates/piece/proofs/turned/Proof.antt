@@ -11,18 +11,18 @@ use Rattle.piece.proofs.turned.Tie as tie
 abbrev given : tie.Start → List Known
 given s = held w64 s.args.sign s.ranges.sign ∷ known s.args.x _ s.requires ∷ []
 
-sub_result : tie.Need-overflow-sub-result
-sub_result c = fits (given c.before) (search code depth 30 fits 9000) tt
+overflow_sub-result : tie.Need-overflow_sub-result
+overflow_sub-result c = fits (given c.before) (search code depth 30 fits 9000) tt
+
+returns-then-sign-lt0 : tie.Need-returns-then-sign-lt0
+returns-then-sign-lt0 c =
+    let s = c.before in
+    record { is = plain_is {Γ = given s} (search code depth 30 fits 9000) tt ∙ sym (sign_down s.args.sign s.args.x (passed (given s) c.if-sign-lt0.true (search tests depth 30 fits 9000) tt)) }
 
 returns : tie.Need-returns
 returns c =
     let s = c.before in
-    record { is = plain_is {Γ = given s} (search code depth 30 fits 9000) tt ∙ sym (sign_down s.args.sign s.args.x (passed (given s) c.if1.true (search tests depth 30 fits 9000) tt)) }
-
-returns_2 : tie.Need-returns-2
-returns_2 c =
-    let s = c.before in
-    record { is = plain_is {Γ = given s} (search code depth 30 fits 9000) tt ∙ sym (sign_up s.args.sign s.args.x (failed (given s) c.if1.false (search tests depth 30 fits 9000) tt)) }
+    record { is = plain_is {Γ = given s} (search code depth 30 fits 9000) tt ∙ sym (sign_up s.args.sign s.args.x (failed (given s) c.if-sign-lt0.false (search tests depth 30 fits 9000) tt)) }
 
 pub turned_spec : {M : Type 1} → statement M
-turned_spec = tie.close (tie.spec sub_result returns returns_2)
+turned_spec = tie.close (tie.spec overflow_sub-result returns-then-sign-lt0 returns)

@@ -11,33 +11,33 @@ use Rattle.position.specs.Halving.{ten_halvings}
 use Rattle.position.proofs.seek.Statement.{statement}
 use Rattle.position.proofs.seek.Tie as tie
 
-within_requires : tie.Need-within-requires
-within_requires c κs = omega (arith, c.requires.0.count.low)
+within-requires : tie.Need-within-requires
+within-requires c κs = omega (arith, c.requires.points_within.count.low)
+
+returns-then-not-within : tie.Need-returns-then-not-within
+returns-then-not-within c =
+    let s = c.before.before in
+    outside (λ w. denied c.before.within.ensures (not-true _ c.if-not-within.true) (subst (WithinKnots s.args.knots.now) (sym (to_z-of_z s.ranges.position)) w))
+
+piece-piece-requires : tie.Need-piece-piece-requires
+piece-piece-requires c κs =
+    let p = c.before.before.requires.points_within in
+    record { in_bounds = omega (arith, p.count.low); knots_bound = ten_halvings p; within_knots = told c.before.within.ensures (not-false _ c.if-not-within.false) }
+
+spot_on-requires : tie.Need-spot_on-requires
+spot_on-requires c κs =
+    let p = c.before.before.before.requires in
+    record { points_within = p.0; slopes_len = p.1; belongs = c.piece-piece.ensures }
 
 returns : tie.Need-returns
 returns c =
-    let s = c.before.before in
-    outside (λ w. denied c.before.within.ensures (not-true _ c.if1.true) (subst (WithinKnots s.args.knots.now) (sym (to_z-of_z s.ranges.position)) w))
-
-piece_requires : tie.Need-piece-requires
-piece_requires c κs =
-    let p = c.before.before.requires.0 in
-    (omega (arith, p.count.low), (ten_halvings p, told c.before.within.ensures (not-false _ c.if1.false)))
-
-spot_on_requires : tie.Need-spot-on-requires
-spot_on_requires c κs =
-    let p = c.before.before.before.requires in
-    (p.0, (p.1, c.piece.ensures))
-
-returns_2 : tie.Need-returns-2
-returns_2 c =
     let e = c.before.before in
     let s = e.before.before in
-    let r = c.Spot-on.result in
-    on (subst (WithinKnots s.args.knots.now) (to_z-of_z s.ranges.position) (told e.before.within.ensures (not-false _ e.if1.false)))
-    (subst (λ (x : ℤ). SpotOn s.args.knots.now s.args.values.now s.args.slopes.now r.piece x r.left r.h r.z r.m r.n r.t) (to_z-of_z s.ranges.position) c.Spot-on.ensures)
+    let r = c.spot_on.result in
+    on (subst (WithinKnots s.args.knots.now) (to_z-of_z s.ranges.position) (told e.before.within.ensures (not-false _ e.if-not-within.false)))
+    (subst (λ (x : ℤ). SpotOn s.args.knots.now s.args.values.now s.args.slopes.now r.piece-piece x r.left r.h r.z r.m r.n r.t) (to_z-of_z s.ranges.position) c.spot_on.ensures)
 
 pub seek_spec : {M : Type 1} → statement M
 seek_spec =
     tie.close
-    (tie.spec within_requires returns piece_requires spot_on_requires returns_2)
+    (tie.spec within-requires returns-then-not-within piece-piece-requires spot_on-requires returns)

@@ -15,37 +15,37 @@ use Rattle.position.proofs.within.Tie as tie
 
 -- ---- before the first knot
 
-shared_slice_copy_out_if1 : tie.Need-shared-slice-copy-out-if1
-shared_slice_copy_out_if1 c = search rules
+bounds-knots-0 : tie.Need-bounds-knots-0
+bounds-knots-0 c = search rules
 
-abbrev first : tie.After-if12 → List Known
+abbrev first : tie.After-t4-1 → List Known
 first c =
     let s = c.before in
-    held w32 s.args.position s.ranges.position ∷ held w32 (entry s.args.knots.now 0) (record { sfits = c.if12.given }) ∷ []
+    held w32 s.args.position s.ranges.position ∷ held w32 (entry s.args.knots.now 0) (record { sfits = c.t4-1.given }) ∷ []
 
-returns : tie.Need-returns
-returns c = fails (λ b. clash_ℤ (passed (first c.before) c.if1.true (search tests depth 30 fits 9000) tt) b.low)
+returns-then-position-knots : tie.Need-returns-then-position-knots
+returns-then-position-knots c = fails (λ b. clash_ℤ (passed (first c.before) c.if-position-knots.true (search tests depth 30 fits 9000) tt) b.low)
 
 -- ---- after the last
 
-sub_result : tie.Need-overflow-sub-result
-sub_result c = search rules
+overflow_sub-result : tie.Need-overflow_sub-result
+overflow_sub-result c = search rules
 
-mul_result : tie.Need-overflow-mul-result
-mul_result c = search rules
+offset_bounds-knots-knots : tie.Need-offset_bounds-knots-knots
+offset_bounds-knots-knots c = search rules
 
-shared_slice_copy_out_result : tie.Need-shared-slice-copy-out-result
-shared_slice_copy_out_result c = search rules
+bounds-knots-knots : tie.Need-bounds-knots-knots
+bounds-knots-knots c = search rules
 
-abbrev last : tie.After-result → List Known
+abbrev last : tie.After-result-1 → List Known
 last c =
     let s = c.before.before.before in
-    held w32 s.args.position s.ranges.position ∷ held w32 (entry s.args.knots.now (length s.args.knots.now - 1)) (record { sfits = c.result.given }) ∷ []
+    held w32 s.args.position s.ranges.position ∷ held w32 (entry s.args.knots.now (length s.args.knots.now - 1)) (record { sfits = c.result-1.given }) ∷ []
 
-returns_2 : tie.Need-returns-2
-returns_2 c =
+returns : tie.Need-returns
+returns c =
     decided_by _ (λ e. record {
-      low = failed (first c.before.before) c.before.if1.false (search tests depth 30 fits 9000) tt;
+      low = failed (first c.before.before) c.before.if-position-knots.false (search tests depth 30 fits 9000) tt;
       high = passed (last c) e (search tests depth 30 fits 9000) tt;
     }) (λ e b. clash_ℤ (failed (last c) e (search tests depth 30 fits 9000) tt) b.high)
 
@@ -53,9 +53,9 @@ pub within_spec : {M : Type 1} → statement M
 within_spec =
     tie.close
     (tie.spec
-    shared_slice_copy_out_if1
-    returns
-    sub_result
-    mul_result
-    shared_slice_copy_out_result
-    returns_2)
+    bounds-knots-0
+    returns-then-position-knots
+    overflow_sub-result
+    offset_bounds-knots-knots
+    bounds-knots-knots
+    returns)

@@ -7,15 +7,15 @@ use Rattle.integers.specs.Decided.{decided_by}
 use Rattle.rules.proofs.count_within.Statement.{statement}
 use Rattle.rules.proofs.count_within.Tie as tie
 
-returns : tie.Need-returns
-returns c = fails (λ b. omega (arith, c.if1.true, b.low))
+returns-then-n-lt2 : tie.Need-returns-then-n-lt2
+returns-then-n-lt2 c = fails (λ b. omega (arith, c.if-n-lt2.true, b.low))
 
-returns_2 : tie.Need-returns-2
-returns_2 c =
-    decided_by _ (λ e. record { low = omega (arith, c.if1.false); high = leb-true _ _ e }) (λ e b. clash (leb-false _ _ e) b.high)
+returns : tie.Need-returns
+returns c =
+    decided_by _ (λ e. record { low = omega (arith, c.if-n-lt2.false); high = leb-true _ _ e }) (λ e b. clash (leb-false _ _ e) b.high)
   where
     clash : {m n : ℕ} → m < n → n ≤ m → ⊥
     clash l h = omega arith
 
 pub count_within_spec : {M : Type 1} → statement M
-count_within_spec = tie.close (tie.spec returns returns_2)
+count_within_spec = tie.close (tie.spec returns-then-n-lt2 returns)

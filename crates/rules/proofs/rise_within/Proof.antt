@@ -6,11 +6,11 @@ use Rattle.rules.specs.Limits.{RiseWithin}
 use Rattle.rules.proofs.rise_within.Statement.{statement}
 use Rattle.rules.proofs.rise_within.Tie as tie
 
-between_requires : tie.Need-between-requires
-between_requires c κs = search rules
+between-requires : tie.Need-between-requires
+between-requires c κs = search rules
 
 returns : tie.Need-returns
 returns c = asked RiseWithin {b = c.between.result} (to_z-of_z c.before.ranges.z) c.between.ensures
 
 pub rise_within_spec : {M : Type 1} → statement M
-rise_within_spec = tie.close (tie.spec between_requires returns)
+rise_within_spec = tie.close (tie.spec between-requires returns)

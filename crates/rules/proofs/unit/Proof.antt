@@ -14,11 +14,11 @@ use Rattle.rules.specs.Known.{UnitSize, unit_size}
 use Rattle.rules.proofs.unit.Statement.{statement}
 use Rattle.rules.proofs.unit.Tie as tie
 
-cast_result : tie.Need-overflow-cast-result
-cast_result c = search rules
+overflow_cast-result : tie.Need-overflow_cast-result
+overflow_cast-result c = search rules
 
-shl_result : tie.Need-overflow-shl-result
-shl_result c = omega (arith, c.requires.high)
+overflow_shl-result : tie.Need-overflow_shl-result
+overflow_shl-result c = omega (arith, c.requires.high)
 
 moved_up : {s : ℕ} → s < 63 → to_z w64 ((1 * 2 ^ s) % 2 ^ 64) ≡ unit s
 moved_up {s} l =
@@ -28,7 +28,7 @@ is_unit : (c : tie.Start) → to_z w64 ((1 * 2 ^ c.args.s) % 2 ^ 64) ≡ unit c.
 is_unit c = moved_up (omega (arith, c.requires.high))
 
 returns : tie.Need-returns
-returns c = (is_unit c, subst UnitSize (sym (is_unit c)) (unit_size c.requires))
+returns c = record { value = is_unit c; unit_size = subst UnitSize (sym (is_unit c)) (unit_size c.requires) }
 
 pub unit_spec : {M : Type 1} → statement M
-unit_spec = tie.close (tie.spec cast_result shl_result returns)
+unit_spec = tie.close (tie.spec overflow_cast-result overflow_shl-result returns)

@@ -6,11 +6,11 @@ use Rattle.rules.specs.Limits.{WidthWithin}
 use Rattle.rules.proofs.width_within.Statement.{statement}
 use Rattle.rules.proofs.width_within.Tie as tie
 
-between_requires : tie.Need-between-requires
-between_requires c κs = search rules
+between-requires : tie.Need-between-requires
+between-requires c κs = search rules
 
 returns : tie.Need-returns
 returns c = asked WidthWithin {b = c.between.result} (to_z-of_z c.before.ranges.h) c.between.ensures
 
 pub width_within_spec : {M : Type 1} → statement M
-width_within_spec = tie.close (tie.spec between_requires returns)
+width_within_spec = tie.close (tie.spec between-requires returns)

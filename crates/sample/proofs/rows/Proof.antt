@@ -6,51 +6,51 @@ use borrow.Author.Rules.{rules}
 use Rattle.sample.proofs.rows.Statement.{statement}
 use Rattle.sample.proofs.rows.Tie as tie
 
-abbrev invariant_loop : tie.invariant_loop
-invariant_loop out₀ held positions knots values slopes n₀ i₀ out n i = length out ≡ length out₀
+abbrev invariant-loop-i : tie.invariant-loop-i
+invariant-loop-i out₀ held positions knots values slopes n₀ i₀ out n i = length out ≡ length out₀
 
-abbrev decreases_loop : tie.decreases_loop
-decreases_loop out₀ held positions knots values slopes n₀ i₀ out n i = length positions - i
+abbrev decreases-loop-i : tie.decreases-loop-i
+decreases-loop-i out₀ held positions knots values slopes n₀ i₀ out n i = length positions - i
 
-loop_holds : tie.Need-loop-init invariant_loop decreases_loop
-loop_holds c = search rules
+loop-i-init : tie.Need-loop-i-init invariant-loop-i decreases-loop-i
+loop-i-init c = search rules
 
-mul_row : tie.Need-overflow-mul-row invariant_loop decreases_loop
-mul_row c = search rules
+offset_bounds-positions-i : tie.Need-offset_bounds-positions-i invariant-loop-i decreases-loop-i
+offset_bounds-positions-i c = search rules
 
-shared_slice_copy_out_row : tie.Need-shared-slice-copy-out-row invariant_loop decreases_loop
-shared_slice_copy_out_row c = search rules
+bounds-positions-i : tie.Need-bounds-positions-i invariant-loop-i decreases-loop-i
+bounds-positions-i c = search rules
 
-row_requires : tie.Need-row-requires invariant_loop decreases_loop
-row_requires c κs = search rules
+row-n-requires : tie.Need-row-n-requires invariant-loop-i decreases-loop-i
+row-n-requires c κs = search rules
 
-add_i : tie.Need-overflow-add-i invariant_loop decreases_loop
-add_i c = search rules
+overflow_add-i : tie.Need-overflow_add-i invariant-loop-i decreases-loop-i
+overflow_add-i c = search rules
 
-loop_less : tie.Need-loop-smaller invariant_loop decreases_loop
-loop_less c = search rules
+loop-i-smaller : tie.Need-loop-i-smaller invariant-loop-i decreases-loop-i
+loop-i-smaller c = search rules
 
-loop_again : tie.Need-loop-preserved invariant_loop decreases_loop
-loop_again c = search rules
+loop-i-preserved : tie.Need-loop-i-preserved invariant-loop-i decreases-loop-i
+loop-i-preserved c = search rules
 
-same_length : tie.Need-same-length invariant_loop decreases_loop
-same_length c = search rules
+shape_of-out : tie.Need-shape_of-out invariant-loop-i decreases-loop-i
+shape_of-out c = search rules
 
-returns : tie.Need-returns invariant_loop decreases_loop
+returns : tie.Need-returns invariant-loop-i decreases-loop-i
 returns c = search rules
 
 pub rows_spec : {M : Type 1} → statement M
 rows_spec =
     tie.close
     (tie.spec
-    invariant_loop
-    decreases_loop
-    loop_holds
-    mul_row
-    shared_slice_copy_out_row
-    row_requires
-    add_i
-    loop_less
-    loop_again
-    same_length
+    invariant-loop-i
+    decreases-loop-i
+    loop-i-init
+    offset_bounds-positions-i
+    bounds-positions-i
+    row-n-requires
+    overflow_add-i
+    loop-i-smaller
+    loop-i-preserved
+    shape_of-out
     returns)

@@ -9,47 +9,44 @@ use borrow.Author.Rules.{rules}
 use Rattle.answers.proofs.filling.append_next.Statement.{statement}
 use Rattle.answers.proofs.filling.append_next.Tie as tie
 
-pick_requires : tie.Need-pick-requires
-pick_requires c κs = search rules
+pick-requires : tie.Need-pick-requires
+pick-requires c κs = search rules
 
-append_signed_requires : tie.Need-append-signed-requires
-append_signed_requires c κs = search rules
+append_signed-requires : tie.Need-append_signed-requires
+append_signed-requires c κs = search rules
 
-same_length : tie.Need-same-length
-same_length c = search rules
+shape_of-into-then-k-lt3 : tie.Need-shape_of-into-then-k-lt3
+shape_of-into-then-k-lt3 c = search rules
+
+returns-then-k-lt3 : tie.Need-returns-then-k-lt3
+returns-then-k-lt3 c =
+    let a = c.before.before.before.before.before.before.before.args in
+    let r = c.before.before.append_signed in
+    subst⁻¹ (λ (l : List ℕ). Appended a.into-1.now a.held l r.new.0 r.result) c.before.before.before.pick.ensures r.ensures
+
+append-requires : tie.Need-append-requires
+append-requires c κs = search rules
+
+shape_of-into : tie.Need-shape_of-into
+shape_of-into c = search rules
 
 returns : tie.Need-returns
 returns c =
     let a = c.before.before.before.before.before.before.before.args in
-    let r = c.before.before.append-signed in
-    subst⁻¹ (λ (l : List ℕ). Appended a.into.now a.held l r.new.0 r.result) c.before.before.before.pick.ensures r.ensures
-
-slice_aggregate_append : tie.Need-slice-aggregate-append
-slice_aggregate_append c = search rules
-
-append_requires : tie.Need-append-requires
-append_requires c κs = search rules
-
-same_length_2 : tie.Need-same-length-2
-same_length_2 c = search rules
-
-returns_2 : tie.Need-returns-2
-returns_2 c =
-    let a = c.before.before.before.before.before.before.before.args in
     let r = c.before.before.append in
-    subst⁻¹ (λ (l : List ℕ). Appended a.into.now a.held l r.new.0 r.result)
-    (ap next_text (drop_of_length-le (a.first ∷ a.second ∷ a.third ∷ []) c.before.before.before.before.before.if1.false))
+    subst⁻¹ (λ (l : List ℕ). Appended a.into-1.now a.held l r.new.0 r.result)
+    (ap next_text (drop_of_length-le (a.first ∷ a.second ∷ a.third ∷ []) c.before.before.before.before.before.if-k-lt3.false))
     r.ensures
 
 pub append_next_spec : {M : Type 1} → statement M
 append_next_spec =
     tie.close
     (tie.spec
-    pick_requires
-    append_signed_requires
-    same_length
-    returns
+    pick-requires
+    append_signed-requires
+    shape_of-into-then-k-lt3
+    returns-then-k-lt3
     slice_aggregate_append
-    append_requires
-    same_length_2
-    returns_2)
+    append-requires
+    shape_of-into
+    returns)

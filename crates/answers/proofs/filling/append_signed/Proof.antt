@@ -10,39 +10,36 @@ use borrow.Author.Rules.{rules}
 use Rattle.answers.proofs.filling.append_signed.Statement.{statement}
 use Rattle.answers.proofs.filling.append_signed.Tie as tie
 
-slice_aggregate_append : tie.Need-slice-aggregate-append
-slice_aggregate_append c = search rules
+append-signed-requires : tie.Need-append-signed-requires
+append-signed-requires c κs = search rules
 
-append_requires : tie.Need-append-requires
-append_requires c κs = search rules
+append_natural-requires : tie.Need-append_natural-requires
+append_natural-requires c κs = search rules
 
-append_natural_requires : tie.Need-append-natural-requires
-append_natural_requires c κs = search rules
+shape_of-into-then-number : tie.Need-shape_of-into-then-number
+shape_of-into-then-number c = search rules
 
-same_length : tie.Need-same-length
-same_length c = search rules
+returns-then-number : tie.Need-returns-then-number
+returns-then-number c =
+    let a = c.before.before.before.before.before.before.before.before.before.before.before.args in
+    let r = c.before.before.append_natural in
+    let signed = c.before.before.before.before.before.before.append-signed in
+    subst⁻¹ (λ (l : List ℕ). Appended a.into-1.now a.held l r.new.0 r.result)
+    (ap (λ (t : Bool). cond t (45 ∷ decimal_of a.number.size) (decimal_of a.number.size)) c.before.before.before.before.before.before.before.before.before.if-number.true)
+    (both {m = 45 ∷ []} signed.ensures r.ensures)
+
+append_natural-requires-2 : tie.Need-append_natural-requires-2
+append_natural-requires-2 c κs = search rules
+
+shape_of-into : tie.Need-shape_of-into
+shape_of-into c = search rules
 
 returns : tie.Need-returns
 returns c =
-    let a = c.before.before.before.before.before.before.before.before.before.before.before.args in
-    let r = c.before.before.append_natural in
-    let signed = c.before.before.before.before.before.before.append in
-    subst⁻¹ (λ (l : List ℕ). Appended a.into.now a.held l r.new.0 r.result)
-    (ap (λ (t : Bool). cond t (45 ∷ decimal_of a.number.size) (decimal_of a.number.size)) c.before.before.before.before.before.before.before.before.before.if1.true)
-    (both {m = 45 ∷ []} signed.ensures r.ensures)
-
-append_natural_requires_2 : tie.Need-append-natural-requires-2
-append_natural_requires_2 c κs = search rules
-
-same_length_2 : tie.Need-same-length-2
-same_length_2 c = search rules
-
-returns_2 : tie.Need-returns-2
-returns_2 c =
     let a = c.before.before.before.before.before.before.args in
-    let r = c.before.before.append-natural2 in
-    subst⁻¹ (λ (l : List ℕ). Appended a.into.now a.held l r.new.0 r.result)
-    (ap (λ (t : Bool). cond t (45 ∷ decimal_of a.number.size) (decimal_of a.number.size)) c.before.before.before.before.if1.false)
+    let r = c.before.before.append_natural-2 in
+    subst⁻¹ (λ (l : List ℕ). Appended a.into-1.now a.held l r.new.0 r.result)
+    (ap (λ (t : Bool). cond t (45 ∷ decimal_of a.number.size) (decimal_of a.number.size)) c.before.before.before.before.if-number.false)
     r.ensures
 
 pub append_signed_spec : {M : Type 1} → statement M
@@ -50,10 +47,10 @@ append_signed_spec =
     tie.close
     (tie.spec
     slice_aggregate_append
-    append_requires
-    append_natural_requires
-    same_length
-    returns
-    append_natural_requires_2
-    same_length_2
-    returns_2)
+    append-signed-requires
+    append_natural-requires
+    shape_of-into-then-number
+    returns-then-number
+    append_natural-requires-2
+    shape_of-into
+    returns)

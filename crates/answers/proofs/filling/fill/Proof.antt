@@ -15,85 +15,85 @@ use borrow.Author.Rules.{rules}
 use Rattle.answers.proofs.filling.fill.Statement.{statement}
 use Rattle.answers.proofs.filling.fill.Tie as tie
 
-abbrev invariant_loop : tie.invariant_loop
-invariant_loop into₀ held template text first second third n₀ k₀ i₀ into n k i =
+abbrev invariant-loop-i : tie.invariant-loop-i
+invariant-loop-i into₀ held template text first second third n₀ k₀ i₀ into n k i =
     Begun into₀ held (filled template text (first ∷ second ∷ third ∷ [])) (filled (drop i template) text (drop k (first ∷ second ∷ third ∷ []))) into n
     × (k ≤ i)
     × (length into ≡ length into₀)
 
-abbrev decreases_loop : tie.decreases_loop
-decreases_loop into₀ held template text first second third n₀ k₀ i₀ into n k i = length template - i
+abbrev decreases-loop-i : tie.decreases-loop-i
+decreases-loop-i into₀ held template text first second third n₀ k₀ i₀ into n k i = length template - i
 
 -- no byte passes more than one number
 passed_one : (b k : ℕ) → cond (eqb b 35) (k + 1) k ≤ k + 1
 passed_one b k = by_test (eqb b 35) (λ (t : eqb b 35 ≡ true). rw t (omega arith)) (λ (t : eqb b 35 ≡ false). rw t (omega arith))
 
-loop_holds : tie.Need-loop-init invariant_loop decreases_loop
-loop_holds c = (record { ended = λ q. q }, omega arith, refl)
+loop-i-init : tie.Need-loop-i-init invariant-loop-i decreases-loop-i
+loop-i-init c = (record { ended = λ q. q }, omega arith, refl)
 
-shared_slice_read_b : tie.Need-shared-slice-read-b invariant_loop decreases_loop
-shared_slice_read_b c = search rules
+bounds-template-i : tie.Need-bounds-template-i invariant-loop-i decreases-loop-i
+bounds-template-i c = search rules
 
-place_requires : tie.Need-place-requires invariant_loop decreases_loop
-place_requires c κs = search rules
+place-n-requires : tie.Need-place-n-requires invariant-loop-i decreases-loop-i
+place-n-requires c κs = search rules
 
-passed_requires : tie.Need-passed-requires invariant_loop decreases_loop
-passed_requires c κs = search rules
+passed-k-requires : tie.Need-passed-k-requires invariant-loop-i decreases-loop-i
+passed-k-requires c κs = search rules
 
-add_i : tie.Need-overflow-add-i invariant_loop decreases_loop
-add_i c = search rules
+overflow_add-i : tie.Need-overflow_add-i invariant-loop-i decreases-loop-i
+overflow_add-i c = search rules
 
-loop_less : tie.Need-loop-smaller invariant_loop decreases_loop
-loop_less c = search rules
+loop-i-smaller : tie.Need-loop-i-smaller invariant-loop-i decreases-loop-i
+loop-i-smaller c = search rules
 
-loop_again : tie.Need-loop-preserved invariant_loop decreases_loop
-loop_again c =
+loop-i-preserved : tie.Need-loop-i-preserved invariant-loop-i decreases-loop-i
+loop-i-preserved c =
     let at-loop = c.before.before.before.before.before.before.before in
     let a = at-loop.before.before.before.before.args in
     let numbers : List Signed = a.first ∷ a.second ∷ a.third ∷ [] in
-    let k = at-loop.loop.k in
-    let i = at-loop.loop.i in
+    let k = at-loop.loop-i.k in
+    let i = at-loop.loop-i.i in
     let byte = get_or a.template.now i 0 in (
-      go_on at-loop.loop.invariant.0
+      go_on at-loop.loop-i.invariant.0
           {more = in_place byte a.text.now (drop k numbers)}
-          (filled_on a.template.now a.text.now numbers i k c.passed.result c.before.before.before.before.before.before.loop-test.true c.passed.ensures)
-          c.before.before.before.place.ensures,
-      omega (arith, passed_one byte k, c.passed.ensures),
+          (filled_on a.template.now a.text.now numbers i k c.passed-k.result c.before.before.before.before.before.before.loop-i-test.true c.passed-k.ensures)
+          c.before.before.before.place-n.ensures,
+      omega (arith, passed_one byte k, c.passed-k.ensures),
       search rules,
     )
 
-slice_aggregate_append : tie.Need-slice-aggregate-append invariant_loop decreases_loop
-slice_aggregate_append c = search rules
+slice_bounds-append-end : tie.Need-slice_bounds-append-end invariant-loop-i decreases-loop-i
+slice_bounds-append-end c = search rules
 
-append_requires : tie.Need-append-requires invariant_loop decreases_loop
-append_requires c κs = search rules
+append-requires : tie.Need-append-requires invariant-loop-i decreases-loop-i
+append-requires c κs = search rules
 
-same_length : tie.Need-same-length invariant_loop decreases_loop
-same_length c = search rules
+shape_of-into : tie.Need-shape_of-into invariant-loop-i decreases-loop-i
+shape_of-into c = search rules
 
-returns : tie.Need-returns invariant_loop decreases_loop
+returns : tie.Need-returns invariant-loop-i decreases-loop-i
 returns c =
     let at-loop = c.before.before.before.before.before.before in
     let a = at-loop.before.before.before.before.args in
     let r = c.before.before.append in
     let numbers : List Signed = a.first ∷ a.second ∷ a.third ∷ [] in
-    let out = filled_out a.template.now a.text.now numbers at-loop.loop.i at-loop.loop.k c.before.before.before.before.before.loop-test.false in
-    at-loop.loop.invariant.0.ended (subst⁻¹ (λ (l : List ℕ). Appended at-loop.loop.into at-loop.loop.n l r.new.0 r.result) out r.ensures)
+    let out = filled_out a.template.now a.text.now numbers at-loop.loop-i.i at-loop.loop-i.k c.before.before.before.before.before.loop-i-test.false in
+    at-loop.loop-i.invariant.0.ended (subst⁻¹ (λ (l : List ℕ). Appended at-loop.loop-i.into-1 at-loop.loop-i.n l r.new.0 r.result) out r.ensures)
 
 pub fill_spec : {M : Type 1} → statement M
 fill_spec =
     tie.close
     (tie.spec
-    invariant_loop
-    decreases_loop
-    loop_holds
-    shared_slice_read_b
-    place_requires
-    passed_requires
-    add_i
-    loop_less
-    loop_again
-    slice_aggregate_append
-    append_requires
-    same_length
+    invariant-loop-i
+    decreases-loop-i
+    loop-i-init
+    bounds-template-i
+    place-n-requires
+    passed-k-requires
+    overflow_add-i
+    loop-i-smaller
+    loop-i-preserved
+    slice_bounds-append-end
+    append-requires
+    shape_of-into
     returns)

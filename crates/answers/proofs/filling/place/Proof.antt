@@ -21,56 +21,56 @@ module _ {byte : ℕ} (text : List ℕ) (numbers : List Signed) where
   itself : (byte ≡ 35 → ⊥) → (byte ≡ 36 → ⊥) → in_place byte text numbers ≡ byte ∷ []
   itself f g = rw (ne_eqb _ _ f, ne_eqb _ _ g)
 
-append_next_requires : tie.Need-append-next-requires
-append_next_requires c κs = search rules
+append_next-requires : tie.Need-append_next-requires
+append_next-requires c κs = search rules
 
-same_length : tie.Need-same-length
-same_length c = search rules
+shape_of-into-then-b-eq35 : tie.Need-shape_of-into-then-b-eq35
+shape_of-into-then-b-eq35 c = search rules
+
+returns-then-b-eq35 : tie.Need-returns-then-b-eq35
+returns-then-b-eq35 c =
+    let a = c.before.before.before.before.before.before.before.args in
+    let r = c.before.before.append_next in
+    subst⁻¹ (λ (l : List ℕ). Appended a.into-1.now a.held l r.new.0 r.result) (number a.text.now (drop a.k (a.first ∷ a.second ∷ a.third ∷ [])) c.before.before.before.before.if-b-eq35.true) r.ensures
+
+append-requires : tie.Need-append-requires
+append-requires c κs = search rules
+
+shape_of-into-then-b-eq36 : tie.Need-shape_of-into-then-b-eq36
+shape_of-into-then-b-eq36 c = search rules
+
+returns-then-b-eq36 : tie.Need-returns-then-b-eq36
+returns-then-b-eq36 c =
+    let a = c.before.before.before.before.before.before.before.before.args in
+    let r = c.before.before.append in
+    subst⁻¹ (λ (l : List ℕ). Appended a.into-1.now a.held l r.new.0 r.result) (given a.text.now (drop a.k (a.first ∷ a.second ∷ a.third ∷ [])) c.before.before.before.before.before.if-b-eq35.false c.before.before.before.before.if-b-eq36.true) r.ensures
+
+slice_bounds-append-end : tie.Need-slice_bounds-append-end
+slice_bounds-append-end c = search rules
+
+append-requires-2 : tie.Need-append-requires-2
+append-requires-2 c κs = search rules
+
+shape_of-into : tie.Need-shape_of-into
+shape_of-into c = search rules
 
 returns : tie.Need-returns
 returns c =
-    let a = c.before.before.before.before.before.before.before.args in
-    let r = c.before.before.append-next in
-    subst⁻¹ (λ (l : List ℕ). Appended a.into.now a.held l r.new.0 r.result) (number a.text.now (drop a.k (a.first ∷ a.second ∷ a.third ∷ [])) c.before.before.before.before.if1.true) r.ensures
-
-append_requires : tie.Need-append-requires
-append_requires c κs = search rules
-
-same_length_2 : tie.Need-same-length-2
-same_length_2 c = search rules
-
-returns_2 : tie.Need-returns-2
-returns_2 c =
-    let a = c.before.before.before.before.before.before.before.before.args in
-    let r = c.before.before.append in
-    subst⁻¹ (λ (l : List ℕ). Appended a.into.now a.held l r.new.0 r.result) (given a.text.now (drop a.k (a.first ∷ a.second ∷ a.third ∷ [])) c.before.before.before.before.before.if1.false c.before.before.before.before.if2.true) r.ensures
-
-slice_aggregate_append : tie.Need-slice-aggregate-append
-slice_aggregate_append c = search rules
-
-append_requires_2 : tie.Need-append-requires-2
-append_requires_2 c κs = search rules
-
-same_length_3 : tie.Need-same-length-3
-same_length_3 c = search rules
-
-returns_3 : tie.Need-returns-3
-returns_3 c =
     let a = c.before.before.before.before.before.before.before.before.before.args in
-    let r = c.before.before.append2 in
-    subst⁻¹ (λ (l : List ℕ). Appended a.into.now a.held l r.new.0 r.result) (itself a.text.now (drop a.k (a.first ∷ a.second ∷ a.third ∷ [])) c.before.before.before.before.before.before.if1.false c.before.before.before.before.before.if2.false) r.ensures
+    let r = c.before.before.append-2 in
+    subst⁻¹ (λ (l : List ℕ). Appended a.into-1.now a.held l r.new.0 r.result) (itself a.text.now (drop a.k (a.first ∷ a.second ∷ a.third ∷ [])) c.before.before.before.before.before.before.if-b-eq35.false c.before.before.before.before.before.if-b-eq36.false) r.ensures
 
 pub place_spec : {M : Type 1} → statement M
 place_spec =
     tie.close
     (tie.spec
-    append_next_requires
-    same_length
-    returns
-    append_requires
-    same_length_2
-    returns_2
-    slice_aggregate_append
-    append_requires_2
-    same_length_3
-    returns_3)
+    append_next-requires
+    shape_of-into-then-b-eq35
+    returns-then-b-eq35
+    append-requires
+    shape_of-into-then-b-eq36
+    returns-then-b-eq36
+    slice_bounds-append-end
+    append-requires-2
+    shape_of-into
+    returns)

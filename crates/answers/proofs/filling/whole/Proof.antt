@@ -44,35 +44,35 @@ plain (negsuc n) e = let z : ◌≡◌ {A = ℕ} 0 1 = cc in absurd (omega arith
 itself : (c : tie.Start) → to_z w64 (of_z w64 c.args.n) ≡ c.args.n
 itself c = to_z-of_z c.ranges.n
 
-at : (c : tie.Then1) → Less (to_z w64 (of_z w64 c.before.args.n))
-at c = negative _ (subst⁻¹ (λ (z : ℤ). nat_abs z < 9223372036854775809) (itself c.before) (omega (arith, nat_abs-le c.before.args.n c.before.ranges.n.sfits))) c.if1.true
+at : (c : tie.Then-n-lt0) → Less (to_z w64 (of_z w64 c.before.args.n))
+at c = negative _ (subst⁻¹ (λ (z : ℤ). nat_abs z < 9223372036854775809) (itself c.before) (omega (arith, nat_abs-le c.before.args.n c.before.ranges.n.sfits))) c.if-n-lt0.true
 
-sub_t3 : tie.Need-overflow-sub-t3
-sub_t3 c = subst⁻¹ (SFits w64) (at c).made (record { sfits = omega (arith, (at c).small) })
+overflow_sub-result : tie.Need-overflow_sub-result
+overflow_sub-result c = subst⁻¹ (SFits w64) (at c).made (record { sfits = omega (arith, (at c).small) })
 
 -- the difference, behind its bits
-difference : (c : tie.Then1) → to_z w64 (of_z w64 (negsuc 0 -ℤ to_z w64 (of_z w64 c.before.args.n))) ≡ pos (at c).less
-difference c = to_z-of_z (sub_t3 c) ∙ (at c).made
+difference : (c : tie.Then-n-lt0) → to_z w64 (of_z w64 (negsuc 0 -ℤ to_z w64 (of_z w64 c.before.args.n))) ≡ pos (at c).less
+difference c = to_z-of_z (overflow_sub-result c) ∙ (at c).made
 
-cast_t4 : tie.Need-overflow-cast-t4
-cast_t4 c = subst⁻¹ (λ (z : ℤ). T (non_neg z) × Fits w64 (nat_abs z)) (difference c) (tt, record { fits = omega (arith, (at c).small) })
+overflow_cast-result : tie.Need-overflow_cast-result
+overflow_cast-result c = subst⁻¹ (λ (z : ℤ). T (non_neg z) × Fits w64 (nat_abs z)) (difference c) (tt, record { fits = omega (arith, (at c).small) })
 
-add_t5 : tie.Need-overflow-add-t5
-add_t5 c = subst⁻¹ (λ (z : ℤ). Fits w64 (nat_abs z + 1)) (difference c) (record { fits = omega (arith, (at c).small) })
+overflow_add-result : tie.Need-overflow_add-result
+overflow_add-result c = subst⁻¹ (λ (z : ℤ). Fits w64 (nat_abs z + 1)) (difference c) (record { fits = omega (arith, (at c).small) })
+
+returns-then-n-lt0 : tie.Need-returns-then-n-lt0
+returns-then-n-lt0 c = ap (λ (z : ℤ). below_zero (nat_abs z + 1)) (difference c) ∙ (at c).written ∙ ap whole_as (itself c.before)
+
+overflow_cast-n : tie.Need-overflow_cast-n
+overflow_cast-n c = fits_natural c.before.args.n c.before.ranges.n c.if-n-lt0.false
+
+natural-requires : tie.Need-natural-requires
+natural-requires c κs = search rules
 
 returns : tie.Need-returns
-returns c = ap (λ (z : ℤ). below_zero (nat_abs z + 1)) (difference c) ∙ (at c).written ∙ ap whole_as (itself c.before)
-
-cast_natural : tie.Need-overflow-cast-natural
-cast_natural c = fits_natural c.before.args.n c.before.ranges.n c.if1.false
-
-natural_requires : tie.Need-natural-requires
-natural_requires c κs = search rules
-
-returns_2 : tie.Need-returns-2
-returns_2 c =
-    c.natural.ensures ∙ plain (to_z w64 (of_z w64 c.before.before.args.n)) c.before.if1.false ∙ ap whole_as (itself c.before.before)
+returns c =
+    c.natural.ensures ∙ plain (to_z w64 (of_z w64 c.before.before.args.n)) c.before.if-n-lt0.false ∙ ap whole_as (itself c.before.before)
 
 pub whole_spec : {M : Type 1} → statement M
 whole_spec =
-    tie.close (tie.spec sub_t3 cast_t4 add_t5 returns cast_natural natural_requires returns_2)
+    tie.close (tie.spec overflow_sub-result overflow_cast-result overflow_add-result returns-then-n-lt0 overflow_cast-n natural-requires returns)

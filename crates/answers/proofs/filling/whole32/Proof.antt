@@ -11,14 +11,14 @@ use Rattle.answers.proofs.filling.whole32.Tie as tie
 wide : (s : tie.Start) → SFits w64 (to_z w32 (of_z w32 s.args.n))
 wide s = subst⁻¹ (SFits w64) (to_z-of_z s.ranges.n) (sfits_widen tt s.ranges.n)
 
-cast_whole : tie.Need-overflow-cast-whole
-cast_whole c = wide c
+overflow_cast-n : tie.Need-overflow_cast-n
+overflow_cast-n c = wide c
 
-whole_requires : tie.Need-whole-requires
-whole_requires c κs = search rules
+whole-requires : tie.Need-whole-requires
+whole-requires c κs = search rules
 
 returns : tie.Need-returns
 returns c = c.whole.ensures ∙ ap whole_as (to_z-of_z (wide c.before) ∙ to_z-of_z c.before.ranges.n)
 
 pub whole32_spec : {M : Type 1} → statement M
-whole32_spec = tie.close (tie.spec cast_whole whole_requires returns)
+whole32_spec = tie.close (tie.spec overflow_cast-n whole-requires returns)

@@ -5,17 +5,17 @@ use Rattle.change.specs.Beside.{the_end, two_behind}
 use Rattle.change.proofs.beside.end.Statement.{statement}
 use Rattle.change.proofs.beside.end.Tie as tie
 
-sub_if1 : tie.Need-overflow-sub-if1
-sub_if1 c = search rules
+overflow_sub-n : tie.Need-overflow_sub-n
+overflow_sub-n c = search rules
+
+returns-then-n-k-lt4 : tie.Need-returns-then-n-k-lt4
+returns-then-n-k-lt4 c = the_end (omega (arith, c.if-n-k-lt4.true))
+
+overflow_add-result : tie.Need-overflow_add-result
+overflow_add-result c = search rules
 
 returns : tie.Need-returns
-returns c = the_end (omega (arith, c.if1.true))
-
-add_result : tie.Need-overflow-add-result
-add_result c = search rules
-
-returns_2 : tie.Need-returns-2
-returns_2 c = two_behind (omega (arith, c.if1.false))
+returns c = two_behind (omega (arith, c.if-n-k-lt4.false))
 
 pub end_spec : {M : Type 1} → statement M
-end_spec = tie.close (tie.spec sub_if1 returns add_result returns_2)
+end_spec = tie.close (tie.spec overflow_sub-n returns-then-n-k-lt4 overflow_add-result returns)

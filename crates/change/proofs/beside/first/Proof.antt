@@ -5,14 +5,14 @@ use Rattle.change.specs.Beside.{the_start, one_before}
 use Rattle.change.proofs.beside.first.Statement.{statement}
 use Rattle.change.proofs.beside.first.Tie as tie
 
+returns-then-k-lt3 : tie.Need-returns-then-k-lt3
+returns-then-k-lt3 c = the_start c.if-k-lt3.true
+
+overflow_sub-result : tie.Need-overflow_sub-result
+overflow_sub-result c = search rules
+
 returns : tie.Need-returns
-returns c = the_start c.if1.true
-
-sub_result : tie.Need-overflow-sub-result
-sub_result c = search rules
-
-returns_2 : tie.Need-returns-2
-returns_2 c = one_before (omega (arith, c.if1.false))
+returns c = one_before (omega (arith, c.if-k-lt3.false))
 
 pub first_spec : {M : Type 1} → statement M
-first_spec = tie.close (tie.spec returns sub_result returns_2)
+first_spec = tie.close (tie.spec returns-then-k-lt3 overflow_sub-result returns)

@@ -9,33 +9,33 @@ use Rattle.commands.proofs.findings.are_numbers.Statement.{statement}
 use Rattle.commands.proofs.findings.are_numbers.Tie as tie
 
 -- what was found of their number, and what the words are asked
-after : (c : tie.After-are-words) {found : Finding} → c.are_words.result ≡ found
+after : (c : tie.After-are_words) {found : Finding} → c.are_words.result ≡ found
     → or_else found (first_fault c.before.before.args.wides 1 (words_of (drop c.before.before.args.from c.before.before.args.line.now)))
     ≡ numbers c.before.before.args.n c.before.before.args.wides (words_of (drop c.before.before.args.from c.before.before.args.line.now))
 unfolding numbers
 after c e = ap₂ or_else (sym e ∙ c.are_words.ensures) refl
 
-are_words_requires : tie.Need-are-words-requires
-are_words_requires c κs = search rules
+are_words-requires : tie.Need-are_words-requires
+are_words-requires c κs = search rules
 
-enum_told : tie.Need-enum-told
-enum_told c = search rules
+enum_told-1 : tie.Need-enum_told-1
+enum_told-1 c = search rules
 
-first_fault_requires : tie.Need-first-fault-requires
-first_fault_requires c κs = search rules
+first_fault-requires : tie.Need-first_fault-requires
+first_fault-requires c κs = search rules
 
-enum_known_fault : tie.Need-enum-known-fault
-enum_known_fault c = search rules
+enum_known-fault : tie.Need-enum_known-fault
+enum_known-fault c = search rules
 
-returns : tie.Need-returns
+returns-in-Clear : tie.Need-returns-in-Clear
 unfolding or_else
-returns c = c.first-fault.ensures ∙ after c.before.before.before c.before.enum_told.given.1
+returns-in-Clear c = c.first_fault.ensures ∙ after c.before.before.before c.before.enum_told-1.given.1
 
-returns_2 : tie.Need-returns-2
+returns-in-Faulty : tie.Need-returns-in-Faulty
 unfolding or_else
-returns_2 c = after c.before.before.before c.before.fault.given.1
+returns-in-Faulty c = after c.before.before.before c.before.fault-1.given.1
 
 pub are_numbers_spec : {M : Type 1} → statement M
 are_numbers_spec =
     tie.close
-    (tie.spec are_words_requires enum_told first_fault_requires enum_known_fault returns returns_2)
+    (tie.spec are_words-requires enum_told-1 first_fault-requires enum_known-fault returns-in-Clear returns-in-Faulty)

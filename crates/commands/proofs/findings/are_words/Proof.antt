@@ -5,20 +5,20 @@ use Rattle.commands.specs.Commands.{counted}
 use Rattle.commands.proofs.findings.are_words.Statement.{statement}
 use Rattle.commands.proofs.findings.are_words.Tie as tie
 
-count_requires : tie.Need-count-requires
-count_requires c κs = search rules
+count-found-requires : tie.Need-count-found-requires
+count-found-requires c κs = search rules
+
+returns-then-found-n : tie.Need-returns-then-found-n
+unfolding counted
+returns-then-found-n c = rw (← c.before.count-found.ensures, lt-ltb _ _ c.if-found-n.true)
+
+returns-then-n-found : tie.Need-returns-then-n-found
+unfolding counted
+returns-then-n-found c = rw (← c.before.before.count-found.ensures, le-ltb _ _ c.before.if-found-n.false, lt-ltb _ _ c.if-n-found.true)
 
 returns : tie.Need-returns
 unfolding counted
-returns c = rw (← c.before.count.ensures, lt-ltb _ _ c.if1.true)
-
-returns_2 : tie.Need-returns-2
-unfolding counted
-returns_2 c = rw (← c.before.before.count.ensures, le-ltb _ _ c.before.if1.false, lt-ltb _ _ c.if2.true)
-
-returns_3 : tie.Need-returns-3
-unfolding counted
-returns_3 c = rw (← c.before.before.count.ensures, le-ltb _ _ c.before.if1.false, le-ltb _ _ c.if2.false)
+returns c = rw (← c.before.before.count-found.ensures, le-ltb _ _ c.before.if-found-n.false, le-ltb _ _ c.if-n-found.false)
 
 pub are_words_spec : {M : Type 1} → statement M
-are_words_spec = tie.close (tie.spec count_requires returns returns_2 returns_3)
+are_words_spec = tie.close (tie.spec count-found-requires returns-then-found-n returns-then-n-found returns)

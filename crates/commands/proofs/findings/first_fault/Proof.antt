@@ -16,11 +16,11 @@ use Rattle.commands.specs.Commands.{or_else, is_number, first_fault}
 use Rattle.commands.proofs.findings.first_fault.Statement.{statement}
 use Rattle.commands.proofs.findings.first_fault.Tie as tie
 
-abbrev invariant_loop : tie.invariant_loop
-invariant_loop line from wides at₀ k₀ at k = (first_fault wides 1 (words_of (drop from line)) ≡ first_fault wides (k + 1) (words_of (drop at line))) × (k ≤ at)
+abbrev invariant-loop-start : tie.invariant-loop-start
+invariant-loop-start line from wides at₀ k₀ at k = (first_fault wides 1 (words_of (drop from line)) ≡ first_fault wides (k + 1) (words_of (drop at line))) × (k ≤ at)
 
-abbrev decreases_loop : tie.decreases_loop
-decreases_loop line from wides at₀ k₀ at k = length line - at
+abbrev decreases-loop-start : tie.decreases-loop-start
+decreases-loop-start line from wides at₀ k₀ at k = length line - at
 
 module _ (wides k : ℕ) (word : List ℕ) (words : List (List ℕ)) where
   stops : {f : Fault} → is_number wides k word ≡ Faulty f → first_fault wides k (word ∷ words) ≡ Faulty f
@@ -36,80 +36,80 @@ unfolding first_fault
 no_fault wides k = refl
 
 -- the word that a turn looks at, and what is found of it
-word : (c : tie.After-known-told invariant_loop decreases_loop)
-    → Found c.before.before.before.before.before.before.args.line.now c.before.before.before.before.loop.at
-    c.before.start.given.0.0 c.before.start.given.0.1.0
-word c = a_word _ _ _ _ (sym c.before.before.before.next_word.ensures ∙ c.before.start.given.1)
+word : (c : tie.In-At invariant-loop-start decreases-loop-start)
+    → Found c.before.before.before.before.before.before.args.line.now c.before.before.before.before.loop-start.at
+    c.before.start-1.given.0.0 c.before.start-1.given.0.1.0
+word c = a_word _ _ _ _ (sym c.before.before.before.next_word.ensures ∙ c.before.start-1.given.1)
 
-seen : (c : tie.After-is-number invariant_loop decreases_loop) {found : Finding} → c.is_number.result ≡ found
-    → is_number c.before.before.before.before.before.before.before.before.args.wides (c.before.before.before.before.before.before.loop.k + 1)
-    (part_of c.before.before.before.before.before.before.before.before.args.line.now c.before.before.before.start.given.0.0 c.before.before.before.start.given.0.1.0) ≡ found
+seen : (c : tie.After-is_number invariant-loop-start decreases-loop-start) {found : Finding} → c.is_number.result ≡ found
+    → is_number c.before.before.before.before.before.before.before.before.args.wides (c.before.before.before.before.before.before.loop-start.k + 1)
+    (part_of c.before.before.before.before.before.before.before.before.args.line.now c.before.before.before.start-1.given.0.0 c.before.before.before.start-1.given.0.1.0) ≡ found
 seen c e = ap (is_number _ _) (sym c.before.part.ensures) ∙ sym c.is_number.ensures ∙ e
 
-loop_holds : tie.Need-loop-init invariant_loop decreases_loop
-loop_holds c = (refl, omega arith)
+loop-start-init : tie.Need-loop-start-init invariant-loop-start decreases-loop-start
+loop-start-init c = (refl, omega arith)
 
-next_word_requires : tie.Need-next-word-requires invariant_loop decreases_loop
-next_word_requires c κs = search rules
+next_word-requires : tie.Need-next_word-requires invariant-loop-start decreases-loop-start
+next_word-requires c κs = search rules
 
-enum_known_start : tie.Need-enum-known-start invariant_loop decreases_loop
-enum_known_start c = search rules
+enum_known-start : tie.Need-enum_known-start invariant-loop-start decreases-loop-start
+enum_known-start c = search rules
 
-add_k : tie.Need-overflow-add-k invariant_loop decreases_loop
-add_k c = let f = word c in omega arith
+overflow_add-k : tie.Need-overflow_add-k invariant-loop-start decreases-loop-start
+overflow_add-k c = let f = word c in omega arith
 
-part_requires : tie.Need-part-requires invariant_loop decreases_loop
-part_requires c κs = search rules
+part-requires : tie.Need-part-requires invariant-loop-start decreases-loop-start
+part-requires c κs = search rules
 
-is_number_requires : tie.Need-is-number-requires invariant_loop decreases_loop
-is_number_requires c κs = search rules
+is_number-requires : tie.Need-is_number-requires invariant-loop-start decreases-loop-start
+is_number-requires c κs = search rules
 
-enum_known_fault : tie.Need-enum-known-fault invariant_loop decreases_loop
-enum_known_fault c = search rules
+enum_known-fault : tie.Need-enum_known-fault invariant-loop-start decreases-loop-start
+enum_known-fault c = search rules
 
-returns : tie.Need-returns invariant_loop decreases_loop
-returns c =
+returns-in-Faulty : tie.Need-returns-in-Faulty invariant-loop-start decreases-loop-start
+returns-in-Faulty c =
     let found = c.before.before.before in
     let passed = found.before.before in
-    sym (passed.before.before.before.before.loop.invariant.0 ∙ ap (first_fault _ _) (word passed).first ∙ stops _ _ _ _ (seen found c.before.fault.given.1))
+    sym (passed.before.before.before.before.loop-start.invariant.0 ∙ ap (first_fault _ _) (word passed).first ∙ stops _ _ _ _ (seen found c.before.fault-1.given.1))
 
-enum_told : tie.Need-enum-told invariant_loop decreases_loop
-enum_told c = search rules
+enum_told-1 : tie.Need-enum_told-1 invariant-loop-start decreases-loop-start
+enum_told-1 c = search rules
 
-loop_less : tie.Need-loop-smaller invariant_loop decreases_loop
-loop_less c = let f = word c.before.before.before.before in omega arith
+loop-start-smaller : tie.Need-loop-start-smaller invariant-loop-start decreases-loop-start
+loop-start-smaller c = let f = word c.before.before.before.before in omega arith
 
-loop_again : tie.Need-loop-preserved invariant_loop decreases_loop
-loop_again c =
+loop-start-preserved : tie.Need-loop-start-preserved invariant-loop-start decreases-loop-start
+loop-start-preserved c =
     let found = c.before.before in
     let passed = found.before.before in
     let f = word passed in
-    (passed.before.before.before.before.loop.invariant.0 ∙ ap (first_fault _ _) f.first ∙ goes_on _ _ _ _ (seen found c.enum_told.given.1), omega arith)
+    (passed.before.before.before.before.loop-start.invariant.0 ∙ ap (first_fault _ _) f.first ∙ goes_on _ _ _ _ (seen found c.enum_told-1.given.1), omega arith)
 
-enum_told_2 : tie.Need-enum-told-2 invariant_loop decreases_loop
-enum_told_2 c = search rules
+enum_told-in_default : tie.Need-enum_told-in_default invariant-loop-start decreases-loop-start
+enum_told-in_default c = search rules
 
-returns_2 : tie.Need-returns-2 invariant_loop decreases_loop
-returns_2 c =
+returns : tie.Need-returns invariant-loop-start decreases-loop-start
+returns c =
     let found = c.before.before in
-    sym (found.before.loop.invariant.0 ∙ ap (first_fault _ _) (no_word _ _ (sym found.next_word.ensures ∙ c.enum-told2.given.1)) ∙ no_fault _ _)
+    sym (found.before.loop-start.invariant.0 ∙ ap (first_fault _ _) (no_word _ _ (sym found.next_word.ensures ∙ c.enum_told-in_default-1.given.1)) ∙ no_fault _ _)
 
 pub first_fault_spec : {M : Type 1} → statement M
 first_fault_spec =
     tie.close
     (tie.spec
-    invariant_loop
-    decreases_loop
-    loop_holds
-    next_word_requires
-    enum_known_start
-    add_k
-    part_requires
-    is_number_requires
-    enum_known_fault
-    returns
-    enum_told
-    loop_less
-    loop_again
-    enum_told_2
-    returns_2)
+    invariant-loop-start
+    decreases-loop-start
+    loop-start-init
+    next_word-requires
+    enum_known-start
+    overflow_add-k
+    part-requires
+    is_number-requires
+    enum_known-fault
+    returns-in-Faulty
+    enum_told-1
+    loop-start-smaller
+    loop-start-preserved
+    enum_told-in_default
+    returns)

@@ -11,70 +11,70 @@ use Rattle.commands.proofs.findings.is_number.Tie as tie
 wide : (c : tie.After-whole) {m : Number} → c.whole.result ≡ m
     → found64 c.before.before.before.args.k m ≡ is_number c.before.before.before.args.wides c.before.before.before.args.k c.before.before.before.args.word.now
 unfolding is_number
-wide c e = rw (le-leb _ _ c.before.if1.true) (ap (found64 _) (sym e ∙ c.whole.ensures))
+wide c e = rw (le-leb _ _ c.before.if-k-wides.true) (ap (found64 _) (sym e ∙ c.whole.ensures))
 
 narrow : (c : tie.After-whole32) {m : Number32} → c.whole32.result ≡ m
     → found32 c.before.before.before.args.k m ≡ is_number c.before.before.before.args.wides c.before.before.before.args.k c.before.before.before.args.word.now
 unfolding is_number
-narrow c e = rw (lt-leb _ _ c.before.if1.false) (ap (found32 _) (sym e ∙ c.whole32.ensures))
+narrow c e = rw (lt-leb _ _ c.before.if-k-wides.false) (ap (found32 _) (sym e ∙ c.whole32.ensures))
 
-whole_requires : tie.Need-whole-requires
-whole_requires c κs = search rules
+whole-requires : tie.Need-whole-requires
+whole-requires c κs = search rules
 
-enum_told : tie.Need-enum-told
-enum_told c = search rules
+enum_told-1 : tie.Need-enum_told-1
+enum_told-1 c = search rules
 
-enum_told_2 : tie.Need-enum-told-2
-enum_told_2 c = search rules
+enum_told-in-NotDecimal : tie.Need-enum_told-in-NotDecimal
+enum_told-in-NotDecimal c = search rules
 
-enum_told_3 : tie.Need-enum-told-3
-enum_told_3 c = search rules
+enum_told-in-TooLarge : tie.Need-enum_told-in-TooLarge
+enum_told-in-TooLarge c = search rules
 
-returns : tie.Need-returns
-returns c = wide c.before.before c.enum_told.given.1
+returns-in-Is : tie.Need-returns-in-Is
+returns-in-Is c = wide c.before.before c.enum_told-1.given.1
 
-returns_2 : tie.Need-returns-2
-returns_2 c = wide c.before.before c.enum-told2.given.1
+returns-in-NotDecimal : tie.Need-returns-in-NotDecimal
+returns-in-NotDecimal c = wide c.before.before c.enum_told-in-NotDecimal-1.given.1
 
-returns_3 : tie.Need-returns-3
-returns_3 c = wide c.before.before c.enum-told3.given.1
+returns-in-TooLarge : tie.Need-returns-in-TooLarge
+returns-in-TooLarge c = wide c.before.before c.enum_told-in-TooLarge-1.given.1
 
-whole32_requires : tie.Need-whole32-requires
-whole32_requires c κs = search rules
+whole32-requires : tie.Need-whole32-requires
+whole32-requires c κs = search rules
 
-enum_told_4 : tie.Need-enum-told-4
-enum_told_4 c = search rules
+enum_told-in-Is-whole32 : tie.Need-enum_told-in-Is-whole32
+enum_told-in-Is-whole32 c = search rules
 
-enum_told_5 : tie.Need-enum-told-5
-enum_told_5 c = search rules
+enum_told-in-NotDecimal-whole32 : tie.Need-enum_told-in-NotDecimal-whole32
+enum_told-in-NotDecimal-whole32 c = search rules
 
-enum_told_6 : tie.Need-enum-told-6
-enum_told_6 c = search rules
+enum_told-in-TooLarge-whole32 : tie.Need-enum_told-in-TooLarge-whole32
+enum_told-in-TooLarge-whole32 c = search rules
 
-returns_4 : tie.Need-returns-4
-returns_4 c = narrow c.before.before c.enum-told4.given.1
+returns-in-Is-whole32 : tie.Need-returns-in-Is-whole32
+returns-in-Is-whole32 c = narrow c.before.before c.enum_told-in-Is-whole32-1.given.1
 
-returns_5 : tie.Need-returns-5
-returns_5 c = narrow c.before.before c.enum-told5.given.1
+returns-in-NotDecimal-whole32 : tie.Need-returns-in-NotDecimal-whole32
+returns-in-NotDecimal-whole32 c = narrow c.before.before c.enum_told-in-NotDecimal-whole32-1.given.1
 
-returns_6 : tie.Need-returns-6
-returns_6 c = narrow c.before.before c.enum-told6.given.1
+returns-in-TooLarge-whole32 : tie.Need-returns-in-TooLarge-whole32
+returns-in-TooLarge-whole32 c = narrow c.before.before c.enum_told-in-TooLarge-whole32-1.given.1
 
 pub is_number_spec : {M : Type 1} → statement M
 is_number_spec =
     tie.close
     (tie.spec
-    whole_requires
-    enum_told
-    enum_told_2
-    enum_told_3
-    returns
-    returns_2
-    returns_3
-    whole32_requires
-    enum_told_4
-    enum_told_5
-    enum_told_6
-    returns_4
-    returns_5
-    returns_6)
+    whole-requires
+    enum_told-1
+    enum_told-in-NotDecimal
+    enum_told-in-TooLarge
+    returns-in-Is
+    returns-in-NotDecimal
+    returns-in-TooLarge
+    whole32-requires
+    enum_told-in-Is-whole32
+    enum_told-in-NotDecimal-whole32
+    enum_told-in-TooLarge-whole32
+    returns-in-Is-whole32
+    returns-in-NotDecimal-whole32
+    returns-in-TooLarge-whole32)

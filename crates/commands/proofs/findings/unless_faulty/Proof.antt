@@ -6,19 +6,19 @@ use Rattle.commands.specs.Commands.{unless}
 use Rattle.commands.proofs.findings.unless_faulty.Statement.{statement}
 use Rattle.commands.proofs.findings.unless_faulty.Tie as tie
 
-enum_told : tie.Need-enum-told
-enum_told c = search rules
+enum_told-1 : tie.Need-enum_told-1
+enum_told-1 c = search rules
 
-enum_known_found : tie.Need-enum-known-found
-enum_known_found c = search rules
+enum_known-found : tie.Need-enum_known-found
+enum_known-found c = search rules
 
-returns : tie.Need-returns
+returns-in-Clear : tie.Need-returns-in-Clear
 unfolding unless
-returns c = search rules
+returns-in-Clear c = search rules
 
-returns_2 : tie.Need-returns-2
+returns-in-Faulty : tie.Need-returns-in-Faulty
 unfolding unless
-returns_2 c = sym (ap (λ (f : Finding). unless f c.before.before.before.args.command) c.before.found.given.1)
+returns-in-Faulty c = sym (ap (λ (f : Finding). unless f c.before.before.before.args.command) c.before.found-1.given.1)
 
 pub unless_faulty_spec : {M : Type 1} → statement M
-unless_faulty_spec = tie.close (tie.spec enum_told enum_known_found returns returns_2)
+unless_faulty_spec = tie.close (tie.spec enum_told-1 enum_known-found returns-in-Clear returns-in-Faulty)

@@ -13,81 +13,81 @@ use Rattle.commands.specs.Choosing.{place_of, compared, place_here, place_on, no
 use Rattle.commands.proofs.naming.place.Statement.{statement}
 use Rattle.commands.proofs.naming.place.Tie as tie
 
-abbrev invariant_loop : tie.invariant_loop
-invariant_loop word names at₀ k₀ at k = (place_of word (words_of names) ≡ k + place_of word (words_of (drop at names))) × (k ≤ at)
+abbrev invariant-loop-start : tie.invariant-loop-start
+invariant-loop-start word names at₀ k₀ at k = (place_of word (words_of names) ≡ k + place_of word (words_of (drop at names))) × (k ≤ at)
 
-abbrev decreases_loop : tie.decreases_loop
-decreases_loop word names at₀ k₀ at k = length names - at
+abbrev decreases-loop-start : tie.decreases-loop-start
+decreases-loop-start word names at₀ k₀ at k = length names - at
 
 -- the name that a turn looks at
-name : (c : tie.After-known-told invariant_loop decreases_loop)
-    → Found c.before.before.before.before.before.before.before.args.names.now c.before.before.before.before.loop.at
-    c.before.start.given.0.0 c.before.start.given.0.1.0
-name c = a_word _ _ _ _ (sym c.before.before.before.next_word.ensures ∙ c.before.start.given.1)
+name : (c : tie.In-At invariant-loop-start decreases-loop-start)
+    → Found c.before.before.before.before.before.before.before.args.names.now c.before.before.before.before.loop-start.at
+    c.before.start-1.given.0.0 c.before.start-1.given.0.1.0
+name c = a_word _ _ _ _ (sym c.before.before.before.next_word.ensures ∙ c.before.start-1.given.1)
 
 -- whether the word is that name
-seen : (c : tie.After-same invariant_loop decreases_loop) {b : Bool} → c.same.result ≡ b
+seen : (c : tie.After-same invariant-loop-start decreases-loop-start) {b : Bool} → c.same.result ≡ b
     → same c.before.before.before.before.before.before.before.before.before.args.word.now
-    (part_of c.before.before.before.before.before.before.before.before.before.args.names.now c.before.before.before.start.given.0.0 c.before.before.before.start.given.0.1.0) ≡ b
+    (part_of c.before.before.before.before.before.before.before.before.before.args.names.now c.before.before.before.start-1.given.0.0 c.before.before.before.start-1.given.0.1.0) ≡ b
 seen c e = rw (← c.before.part.ensures) (compared c.same.result c.same.ensures.0 c.same.ensures.1 ∙ e)
 
-loop_holds : tie.Need-loop-init invariant_loop decreases_loop
-loop_holds c = (omega arith, omega arith)
+loop-start-init : tie.Need-loop-start-init invariant-loop-start decreases-loop-start
+loop-start-init c = (omega arith, omega arith)
 
-next_word_requires : tie.Need-next-word-requires invariant_loop decreases_loop
-next_word_requires c κs = search rules
+next_word-requires : tie.Need-next_word-requires invariant-loop-start decreases-loop-start
+next_word-requires c κs = search rules
 
-enum_known_start : tie.Need-enum-known-start invariant_loop decreases_loop
-enum_known_start c = search rules
+enum_known-start : tie.Need-enum_known-start invariant-loop-start decreases-loop-start
+enum_known-start c = search rules
 
-part_requires : tie.Need-part-requires invariant_loop decreases_loop
-part_requires c κs = search rules
+part-requires : tie.Need-part-requires invariant-loop-start decreases-loop-start
+part-requires c κs = search rules
 
-same_requires : tie.Need-same-requires invariant_loop decreases_loop
-same_requires c κs = search rules
+same-requires : tie.Need-same-requires invariant-loop-start decreases-loop-start
+same-requires c κs = search rules
 
-returns : tie.Need-returns invariant_loop decreases_loop
-returns c =
+returns-then-same : tie.Need-returns-then-same invariant-loop-start decreases-loop-start
+returns-then-same c =
     let passed = c.before.before.before in
-    let here = ap (place_of _) (name passed).first ∙ place_here _ _ _ (seen c.before c.if1.true) in
-    omega (arith, passed.before.before.before.before.loop.invariant.0)
+    let here = ap (place_of _) (name passed).first ∙ place_here _ _ _ (seen c.before c.if-same.true) in
+    omega (arith, passed.before.before.before.before.loop-start.invariant.0)
 
-add_k : tie.Need-overflow-add-k invariant_loop decreases_loop
-add_k c = let f = name c.before.before.before in omega arith
+overflow_add-k : tie.Need-overflow_add-k invariant-loop-start decreases-loop-start
+overflow_add-k c = let f = name c.before.before.before in omega arith
 
-loop_less : tie.Need-loop-smaller invariant_loop decreases_loop
-loop_less c = let f = name c.before.before.before in omega arith
+loop-start-smaller : tie.Need-loop-start-smaller invariant-loop-start decreases-loop-start
+loop-start-smaller c = let f = name c.before.before.before in omega arith
 
-loop_again : tie.Need-loop-preserved invariant_loop decreases_loop
-loop_again c =
+loop-start-preserved : tie.Need-loop-start-preserved invariant-loop-start decreases-loop-start
+loop-start-preserved c =
     let passed = c.before.before.before in
     let f = name passed in
-    let on = ap (place_of _) f.first ∙ place_on _ _ _ (seen c.before c.if1.false) in
-    (omega (arith, passed.before.before.before.before.loop.invariant.0), omega arith)
+    let on = ap (place_of _) f.first ∙ place_on _ _ _ (seen c.before c.if-same.false) in
+    (omega (arith, passed.before.before.before.before.loop-start.invariant.0), omega arith)
 
-enum_told : tie.Need-enum-told invariant_loop decreases_loop
-enum_told c = search rules
+enum_told-1 : tie.Need-enum_told-1 invariant-loop-start decreases-loop-start
+enum_told-1 c = search rules
 
-returns_2 : tie.Need-returns-2 invariant_loop decreases_loop
-returns_2 c =
+returns : tie.Need-returns invariant-loop-start decreases-loop-start
+returns c =
     let word = c.before.before.before.before.before.before.args.word.now in
-    let none = no_word _ _ (sym c.before.before.next_word.ensures ∙ c.enum_told.given.1) in
-    omega (arith, c.before.before.before.loop.invariant.0, ap (place_of word) none ∙ no_place word)
+    let none = no_word _ _ (sym c.before.before.next_word.ensures ∙ c.enum_told-1.given.1) in
+    omega (arith, c.before.before.before.loop-start.invariant.0, ap (place_of word) none ∙ no_place word)
 
 pub place_spec : {M : Type 1} → statement M
 place_spec =
     tie.close
     (tie.spec
-    invariant_loop
-    decreases_loop
-    loop_holds
-    next_word_requires
-    enum_known_start
-    part_requires
-    same_requires
-    returns
-    add_k
-    loop_less
-    loop_again
-    enum_told
-    returns_2)
+    invariant-loop-start
+    decreases-loop-start
+    loop-start-init
+    next_word-requires
+    enum_known-start
+    part-requires
+    same-requires
+    returns-then-same
+    overflow_add-k
+    loop-start-smaller
+    loop-start-preserved
+    enum_told-1
+    returns)

@@ -18,41 +18,41 @@ said : (c : tie.After-whole) {m : Number} → c.whole.result ≡ m
 unfolding wide
 said c e = ap value64 (sym e ∙ c.whole.ensures ∙ ap number_of c.before.word_at.ensures)
 
-word_at_requires : tie.Need-word-at-requires
-word_at_requires c κs = search rules
+word_at-requires : tie.Need-word_at-requires
+word_at-requires c κs = search rules
 
-whole_requires : tie.Need-whole-requires
-whole_requires c κs = search rules
+whole-requires : tie.Need-whole-requires
+whole-requires c κs = search rules
 
-enum_known_n : tie.Need-enum-known-n
-enum_known_n c = search rules
+enum_known-n : tie.Need-enum_known-n
+enum_known-n c = search rules
 
-enum_told : tie.Need-enum-told
-enum_told c = search rules
+enum_told-1 : tie.Need-enum_told-1
+enum_told-1 c = search rules
 
-enum_told_2 : tie.Need-enum-told-2
-enum_told_2 c = search rules
+enum_told-in-TooLarge : tie.Need-enum_told-in-TooLarge
+enum_told-in-TooLarge c = search rules
 
-returns : tie.Need-returns
-returns c =
-    let fits : SFits w64 c.before.n.given.0.0 = search rules in
-    to_z-of_z fits ∙ said c.before.before.before c.before.n.given.1
+returns-in-Is : tie.Need-returns-in-Is
+returns-in-Is c =
+    let fits : SFits w64 c.before.n-1.given.0.0 = search rules in
+    to_z-of_z fits ∙ said c.before.before.before c.before.n-1.given.1
 
-returns_2 : tie.Need-returns-2
-returns_2 c = said c.before.before c.enum_told.given.1
+returns-in-NotDecimal : tie.Need-returns-in-NotDecimal
+returns-in-NotDecimal c = said c.before.before c.enum_told-1.given.1
 
-returns_3 : tie.Need-returns-3
-returns_3 c = said c.before.before c.enum-told2.given.1
+returns-in-TooLarge : tie.Need-returns-in-TooLarge
+returns-in-TooLarge c = said c.before.before c.enum_told-in-TooLarge-1.given.1
 
 pub wide_at_spec : {M : Type 1} → statement M
 wide_at_spec =
     tie.close
     (tie.spec
-    word_at_requires
-    whole_requires
-    enum_known_n
-    enum_told
-    enum_told_2
-    returns
-    returns_2
-    returns_3)
+    word_at-requires
+    whole-requires
+    enum_known-n
+    enum_told-1
+    enum_told-in-TooLarge
+    returns-in-Is
+    returns-in-NotDecimal
+    returns-in-TooLarge)

@@ -5,14 +5,14 @@ use Rattle.commands.specs.Commands.{unless}
 use Rattle.commands.proofs.parsing.alone.Statement.{statement}
 use Rattle.commands.proofs.parsing.alone.Tie as tie
 
-are_words_requires : tie.Need-are-words-requires
-are_words_requires c κs = search rules
+are_words-requires : tie.Need-are_words-requires
+are_words-requires c κs = search rules
 
-unless_faulty_requires : tie.Need-unless-faulty-requires
-unless_faulty_requires c κs = search rules
+unless_faulty-requires : tie.Need-unless_faulty-requires
+unless_faulty-requires c κs = search rules
 
 returns : tie.Need-returns
-returns c = c.unless-faulty.ensures ∙ ap₂ unless c.before.are_words.ensures refl
+returns c = c.unless_faulty.ensures ∙ ap₂ unless c.before.are_words.ensures refl
 
 pub alone_spec : {M : Type 1} → statement M
-alone_spec = tie.close (tie.spec are_words_requires unless_faulty_requires returns)
+alone_spec = tie.close (tie.spec are_words-requires unless_faulty-requires returns)

@@ -12,38 +12,38 @@ points : {k x v k' x' v' : ℤ} → k ≡ k' → x ≡ x' → v ≡ v'
     → Change (record { number = k; knot = x; value = v }) ≡ Change (record { number = k'; knot = x'; value = v' })
 points p q r = rw (p, q, r)
 
-wide_at_requires : tie.Need-wide-at-requires
-wide_at_requires c κs = search rules
+wide_at-requires : tie.Need-wide_at-requires
+wide_at-requires c κs = search rules
 
-narrow_at_requires : tie.Need-narrow-at-requires
-narrow_at_requires c κs = search rules
+narrow_at-requires : tie.Need-narrow_at-requires
+narrow_at-requires c κs = search rules
 
-narrow_at_requires_2 : tie.Need-narrow-at-requires-2
-narrow_at_requires_2 c κs = search rules
+narrow_at-requires-2 : tie.Need-narrow_at-requires-2
+narrow_at-requires-2 c κs = search rules
 
-are_numbers_requires : tie.Need-are-numbers-requires
-are_numbers_requires c κs = search rules
+are_numbers-requires : tie.Need-are_numbers-requires
+are_numbers-requires c κs = search rules
 
-unless_faulty_requires : tie.Need-unless-faulty-requires
-unless_faulty_requires c κs = search rules
+unless_faulty-requires : tie.Need-unless_faulty-requires
+unless_faulty-requires c κs = search rules
 
 returns : tie.Need-returns
 returns c =
     let value = c.before.before in
     let knot = value.before in
     let number = knot.before in
-    c.unless-faulty.ensures
-    ∙ ap₂ unless c.before.are-numbers.ensures
-    (points (to_z-of_z (record { sfits = number.wide_at.type-inv }) ∙ number.wide_at.ensures)
-    (to_z-of_z (record { sfits = knot.narrow_at.type-inv }) ∙ knot.narrow_at.ensures) (to_z-of_z (record { sfits = value.narrow-at2.type-inv }) ∙ value.narrow-at2.ensures))
+    c.unless_faulty.ensures
+    ∙ ap₂ unless c.before.are_numbers.ensures
+    (points (to_z-of_z (record { sfits = number.wide_at.type_inv }) ∙ number.wide_at.ensures)
+    (to_z-of_z (record { sfits = knot.narrow_at.type_inv }) ∙ knot.narrow_at.ensures) (to_z-of_z (record { sfits = value.narrow_at-2.type_inv }) ∙ value.narrow_at-2.ensures))
 
 pub change_spec : {M : Type 1} → statement M
 change_spec =
     tie.close
     (tie.spec
-    wide_at_requires
-    narrow_at_requires
-    narrow_at_requires_2
-    are_numbers_requires
-    unless_faulty_requires
+    wide_at-requires
+    narrow_at-requires
+    narrow_at-requires-2
+    are_numbers-requires
+    unless_faulty-requires
     returns)

@@ -7,20 +7,20 @@ use Rattle.commands.specs.Commands.{unless}
 use Rattle.commands.proofs.parsing.drive.Statement.{statement}
 use Rattle.commands.proofs.parsing.drive.Tie as tie
 
-are_numbers_requires : tie.Need-are-numbers-requires
-are_numbers_requires c κs = search rules
+are_numbers-requires : tie.Need-are_numbers-requires
+are_numbers-requires c κs = search rules
 
-narrow_at_requires : tie.Need-narrow-at-requires
-narrow_at_requires c κs = search rules
+narrow_at-requires : tie.Need-narrow_at-requires
+narrow_at-requires c κs = search rules
 
-unless_faulty_requires : tie.Need-unless-faulty-requires
-unless_faulty_requires c κs = search rules
+unless_faulty-requires : tie.Need-unless_faulty-requires
+unless_faulty-requires c κs = search rules
 
 returns : tie.Need-returns
 returns c =
     let x = c.before in
-    c.unless-faulty.ensures ∙ ap₂ unless x.before.are-numbers.ensures (ap Drive (to_z-of_z (record { sfits = x.narrow_at.type-inv }) ∙ x.narrow_at.ensures))
+    c.unless_faulty.ensures ∙ ap₂ unless x.before.are_numbers.ensures (ap Drive (to_z-of_z (record { sfits = x.narrow_at.type_inv }) ∙ x.narrow_at.ensures))
 
 pub drive_spec : {M : Type 1} → statement M
 drive_spec =
-    tie.close (tie.spec are_numbers_requires narrow_at_requires unless_faulty_requires returns)
+    tie.close (tie.spec are_numbers-requires narrow_at-requires unless_faulty-requires returns)

@@ -19,14 +19,14 @@ something : (line : List ℕ) → 0 < length line → eqb (get_or line 0 0) 35 �
 something [] h = absurd (omega arith)
 something (b ∷ bs) h = refl
 
+returns-then-line-eq0 : tie.Need-returns-then-line-eq0
+returns-then-line-eq0 c = nothing c.before.args.line.now c.if-line-eq0.true
+
+bounds-line-0 : tie.Need-bounds-line-0
+bounds-line-0 c = search rules
+
 returns : tie.Need-returns
-returns c = nothing c.before.args.line.now c.if1.true
-
-shared_slice_read_result : tie.Need-shared-slice-read-result
-shared_slice_read_result c = search rules
-
-returns_2 : tie.Need-returns-2
-returns_2 c = something c.before.before.args.line.now (omega arith)
+returns c = something c.before.before.args.line.now (omega arith)
 
 pub is_comment_spec : {M : Type 1} → statement M
-is_comment_spec = tie.close (tie.spec returns shared_slice_read_result returns_2)
+is_comment_spec = tie.close (tie.spec returns-then-line-eq0 bounds-line-0 returns)

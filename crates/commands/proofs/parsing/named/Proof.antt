@@ -21,123 +21,120 @@ abbrev words : tie.After-place → List (List ℕ)
 words c = words_of (drop c.before.before.before.before.args.end c.before.before.before.before.args.line.now)
 
 -- the place is that in the table
-among : (c : tie.After-place) → c.place.result ≡ place_of c.before.before.part.result.now (names_of (command_table []))
+among : (c : tie.After-place) → c.place.result ≡ place_of c.before.before.part-name.result.now (names_of (command_table []))
 unfolding words_after
 among c = c.place.ensures
 
 placed : (c : tie.After-place) → c.place.result ≡ place_of (name c) (names_of (command_table (words c)))
-placed c = among c ∙ ap (λ (w : List ℕ). place_of w (names_of (command_table []))) c.before.before.part.ensures
+placed c = among c ∙ ap (λ (w : List ℕ). place_of w (names_of (command_table []))) c.before.before.part-name.ensures
 
 -- an arm of the match is right if it answers what stands at its place
 arm : (c : tie.After-place) {n : ℕ} {command : Command} → c.place.result ≡ n
     → command ≡ get_or (commands_of (command_table (words c))) n (Wrong NoCommand) → command ≡ asked (name c) (words c)
 arm c e p = chosen_at (command_table (words c)) (Wrong NoCommand) (name c) (sym e ∙ placed c) p
 
-part_requires : tie.Need-part-requires
-part_requires c κs = search rules
+part-name-requires : tie.Need-part-name-requires
+part-name-requires c κs = search rules
 
-slice_aggregate_place : tie.Need-slice-aggregate-place
-slice_aggregate_place c = search rules
+place-requires : tie.Need-place-requires
+place-requires c κs = search rules
 
-place_requires : tie.Need-place-requires
-place_requires c κs = search rules
+set-requires : tie.Need-set-requires
+set-requires c κs = search rules
 
-set_requires : tie.Need-set-requires
-set_requires c κs = search rules
+set-requires-in-1 : tie.Need-set-requires-in-1
+set-requires-in-1 c κs = search rules
 
-set_requires_2 : tie.Need-set-requires-2
-set_requires_2 c κs = search rules
+set-requires-in-2 : tie.Need-set-requires-in-2
+set-requires-in-2 c κs = search rules
 
-set_requires_3 : tie.Need-set-requires-3
-set_requires_3 c κs = search rules
+show-requires : tie.Need-show-requires
+show-requires c κs = search rules
 
-show_requires : tie.Need-show-requires
-show_requires c κs = search rules
+piece-requires : tie.Need-piece-requires
+piece-requires c κs = search rules
 
-piece_requires : tie.Need-piece-requires
-piece_requires c κs = search rules
+alone-requires : tie.Need-alone-requires
+alone-requires c κs = search rules
 
-alone_requires : tie.Need-alone-requires
-alone_requires c κs = search rules
+alone-requires-in-6 : tie.Need-alone-requires-in-6
+alone-requires-in-6 c κs = search rules
 
-alone_requires_2 : tie.Need-alone-requires-2
-alone_requires_2 c κs = search rules
+at-requires : tie.Need-at-requires
+at-requires c κs = search rules
 
-at_requires : tie.Need-at-requires
-at_requires c κs = search rules
+drive-requires : tie.Need-drive-requires
+drive-requires c κs = search rules
 
-drive_requires : tie.Need-drive-requires
-drive_requires c κs = search rules
+change-requires : tie.Need-change-requires
+change-requires c κs = search rules
 
-change_requires : tie.Need-change-requires
-change_requires c κs = search rules
+unit-requires : tie.Need-unit-requires
+unit-requires c κs = search rules
 
-unit_requires : tie.Need-unit-requires
-unit_requires c κs = search rules
+returns-in-0 : tie.Need-returns-in-0
+returns-in-0 c = arm c.before.before c.before.in_default.keys1 c.set.ensures
 
-returns : tie.Need-returns
-returns c = arm c.before.before c.before.match.keys1 c.set.ensures
+returns-in-1 : tie.Need-returns-in-1
+returns-in-1 c = arm c.before.before c.before.in_default.keys2 c.set-in-1.ensures
 
-returns_2 : tie.Need-returns-2
-returns_2 c = arm c.before.before c.before.match.keys2 c.set2.ensures
+returns-in-2 : tie.Need-returns-in-2
+returns-in-2 c = arm c.before.before c.before.in_default.keys3 c.set-in-2.ensures
 
-returns_3 : tie.Need-returns-3
-returns_3 c = arm c.before.before c.before.match.keys3 c.set3.ensures
+returns-in-3 : tie.Need-returns-in-3
+returns-in-3 c = arm c.before.before c.before.in_default.keys4 c.show.ensures
 
-returns_4 : tie.Need-returns-4
-returns_4 c = arm c.before.before c.before.match.keys4 c.show.ensures
+returns-in-4 : tie.Need-returns-in-4
+returns-in-4 c = arm c.before.before c.before.in_default.keys5 c.piece.ensures
 
-returns_5 : tie.Need-returns-5
-returns_5 c = arm c.before.before c.before.match.keys5 c.piece.ensures
+returns-in-5 : tie.Need-returns-in-5
+returns-in-5 c = arm c.before.before c.before.in_default.keys6 c.alone.ensures
 
-returns_6 : tie.Need-returns-6
-returns_6 c = arm c.before.before c.before.match.keys6 c.alone.ensures
+returns-in-6 : tie.Need-returns-in-6
+returns-in-6 c = arm c.before.before c.before.in_default.keys7 c.alone-in-6.ensures
 
-returns_7 : tie.Need-returns-7
-returns_7 c = arm c.before.before c.before.match.keys7 c.alone2.ensures
+returns-in-7 : tie.Need-returns-in-7
+returns-in-7 c = arm c.before.before c.before.in_default.keys8 c.at.ensures
 
-returns_8 : tie.Need-returns-8
-returns_8 c = arm c.before.before c.before.match.keys8 c.at.ensures
+returns-in-8 : tie.Need-returns-in-8
+returns-in-8 c = arm c.before.before c.before.in_default.keys9 c.drive.ensures
 
-returns_9 : tie.Need-returns-9
-returns_9 c = arm c.before.before c.before.match.keys9 c.drive.ensures
+returns-in-9 : tie.Need-returns-in-9
+returns-in-9 c = arm c.before.before c.before.in_default.keys10 c.change.ensures
 
-returns_10 : tie.Need-returns-10
-returns_10 c = arm c.before.before c.before.match.keys10 c.change.ensures
+returns-in-10 : tie.Need-returns-in-10
+returns-in-10 c = arm c.before.before c.before.in_default.keys11 c.unit.ensures
 
-returns_11 : tie.Need-returns-11
-returns_11 c = arm c.before.before c.before.match.keys11 c.unit.ensures
-
-returns_12 : tie.Need-returns-12
-returns_12 c = none_chosen (command_table (words c.before)) (Wrong NoCommand) (name c.before) (placed c.before) c.match.rest
+returns-in_default : tie.Need-returns-in_default
+returns-in_default c = none_chosen (command_table (words c.before)) (Wrong NoCommand) (name c.before) (placed c.before) c.in_default.rest
 
 pub named_spec : {M : Type 1} → statement M
 named_spec =
     tie.close
     (tie.spec
-    part_requires
+    part-name-requires
     slice_aggregate_place
-    place_requires
-    set_requires
-    set_requires_2
-    set_requires_3
-    show_requires
-    piece_requires
-    alone_requires
-    alone_requires_2
-    at_requires
-    drive_requires
-    change_requires
-    unit_requires
-    returns
-    returns_2
-    returns_3
-    returns_4
-    returns_5
-    returns_6
-    returns_7
-    returns_8
-    returns_9
-    returns_10
-    returns_11
-    returns_12)
+    place-requires
+    set-requires
+    set-requires-in-1
+    set-requires-in-2
+    show-requires
+    piece-requires
+    alone-requires
+    alone-requires-in-6
+    at-requires
+    drive-requires
+    change-requires
+    unit-requires
+    returns-in-0
+    returns-in-1
+    returns-in-2
+    returns-in-3
+    returns-in-4
+    returns-in-5
+    returns-in-6
+    returns-in-7
+    returns-in-8
+    returns-in-9
+    returns-in-10
+    returns-in_default)

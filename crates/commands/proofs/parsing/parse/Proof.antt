@@ -19,52 +19,52 @@ not_long : (line : List ℕ) {comment : Bool} {command : Command} → length lin
     → command ≡ cond comment Nothing (by_words (words_of line)) → command ≡ command_of line
 not_long line h e p = rw (le-ltb _ _ h, ← e) p
 
-returns : tie.Need-returns
-returns c = rw (lt-ltb _ _ c.if1.true)
+returns-then-line-gt-LONGEST : tie.Need-returns-then-line-gt-LONGEST
+returns-then-line-gt-LONGEST c = rw (lt-ltb _ _ c.if-line-gt-LONGEST.true)
 
-is_comment_requires : tie.Need-is-comment-requires
-is_comment_requires c κs = search rules
+is_comment-requires : tie.Need-is_comment-requires
+is_comment-requires c κs = search rules
 
-returns_2 : tie.Need-returns-2
-returns_2 c = not_long c.before.before.before.before.args.line.now c.before.before.if1.false (sym c.if2.true ∙ c.before.is-comment.ensures) refl
+returns-then-is_comment : tie.Need-returns-then-is_comment
+returns-then-is_comment c = not_long c.before.before.before.before.args.line.now c.before.before.if-line-gt-LONGEST.false (sym c.if-is_comment.true ∙ c.before.is_comment.ensures) refl
 
-next_word_requires : tie.Need-next-word-requires
-next_word_requires c κs = search rules
+next_word-requires : tie.Need-next_word-requires
+next_word-requires c κs = search rules
 
-enum_known_start : tie.Need-enum-known-start
-enum_known_start c = search rules
+enum_known-start : tie.Need-enum_known-start
+enum_known-start c = search rules
 
-named_requires : tie.Need-named-requires
-named_requires c κs = search rules
+named-requires : tie.Need-named-requires
+named-requires c κs = search rules
 
-enum_told : tie.Need-enum-told
-enum_told c = search rules
+enum_told-1 : tie.Need-enum_told-1
+enum_told-1 c = search rules
 
-returns_3 : tie.Need-returns-3
-returns_3 c =
+returns-in-At : tie.Need-returns-in-At
+returns-in-At c =
     let found = c.before.before.before.before in
     let asked = found.before in
-    let word = a_word _ _ _ _ (sym found.next_word.ensures ∙ c.before.before.start.given.1) in
-    not_long asked.before.before.before.before.args.line.now asked.before.before.if1.false (sym asked.if2.false ∙ asked.before.is-comment.ensures)
+    let word = a_word _ _ _ _ (sym found.next_word.ensures ∙ c.before.before.start-1.given.1) in
+    not_long asked.before.before.before.before.args.line.now asked.before.before.if-line-gt-LONGEST.false (sym asked.if-is_comment.false ∙ asked.before.is_comment.ensures)
     (c.named.ensures ∙ ap by_words (sym word.first))
 
-returns_4 : tie.Need-returns-4
-returns_4 c =
+returns-in-Nothing : tie.Need-returns-in-Nothing
+returns-in-Nothing c =
     let found = c.before.before in
     let asked = found.before in
-    not_long asked.before.before.before.before.args.line.now asked.before.before.if1.false (sym asked.if2.false ∙ asked.before.is-comment.ensures)
-    (ap by_words (sym (no_word _ _ (sym found.next_word.ensures ∙ c.enum_told.given.1))))
+    not_long asked.before.before.before.before.args.line.now asked.before.before.if-line-gt-LONGEST.false (sym asked.if-is_comment.false ∙ asked.before.is_comment.ensures)
+    (ap by_words (sym (no_word _ _ (sym found.next_word.ensures ∙ c.enum_told-1.given.1))))
 
 pub parse_spec : {M : Type 1} → statement M
 parse_spec =
     tie.close
     (tie.spec
-    returns
-    is_comment_requires
-    returns_2
-    next_word_requires
-    enum_known_start
-    named_requires
-    enum_told
-    returns_3
-    returns_4)
+    returns-then-line-gt-LONGEST
+    is_comment-requires
+    returns-then-is_comment
+    next_word-requires
+    enum_known-start
+    named-requires
+    enum_told-1
+    returns-in-At
+    returns-in-Nothing)

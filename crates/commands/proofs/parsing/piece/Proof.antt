@@ -12,23 +12,23 @@ pieces : {h z m n h' z' m' n' : ℤ} → h ≡ h' → z ≡ z' → m ≡ m' → 
     → Piece (record { h = h; z = z; m = m; n = n }) ≡ Piece (record { h = h'; z = z'; m = m'; n = n' })
 pieces p q r s = rw (p, q, r, s)
 
-wide_at_requires : tie.Need-wide-at-requires
-wide_at_requires c κs = search rules
+wide_at-requires : tie.Need-wide_at-requires
+wide_at-requires c κs = search rules
 
-wide_at_requires_2 : tie.Need-wide-at-requires-2
-wide_at_requires_2 c κs = search rules
+wide_at-requires-2 : tie.Need-wide_at-requires-2
+wide_at-requires-2 c κs = search rules
 
-narrow_at_requires : tie.Need-narrow-at-requires
-narrow_at_requires c κs = search rules
+narrow_at-requires : tie.Need-narrow_at-requires
+narrow_at-requires c κs = search rules
 
-narrow_at_requires_2 : tie.Need-narrow-at-requires-2
-narrow_at_requires_2 c κs = search rules
+narrow_at-requires-2 : tie.Need-narrow_at-requires-2
+narrow_at-requires-2 c κs = search rules
 
-are_numbers_requires : tie.Need-are-numbers-requires
-are_numbers_requires c κs = search rules
+are_numbers-requires : tie.Need-are_numbers-requires
+are_numbers-requires c κs = search rules
 
-unless_faulty_requires : tie.Need-unless-faulty-requires
-unless_faulty_requires c κs = search rules
+unless_faulty-requires : tie.Need-unless_faulty-requires
+unless_faulty-requires c κs = search rules
 
 returns : tie.Need-returns
 returns c =
@@ -36,19 +36,19 @@ returns c =
     let m = n.before in
     let z = m.before in
     let h = z.before in
-    c.unless-faulty.ensures
-    ∙ ap₂ unless c.before.are-numbers.ensures
-    (pieces (to_z-of_z (record { sfits = h.wide_at.type-inv }) ∙ h.wide_at.ensures) (to_z-of_z (record { sfits = z.wide-at2.type-inv }) ∙ z.wide-at2.ensures)
-    (to_z-of_z (record { sfits = m.narrow_at.type-inv }) ∙ m.narrow_at.ensures) (to_z-of_z (record { sfits = n.narrow-at2.type-inv }) ∙ n.narrow-at2.ensures))
+    c.unless_faulty.ensures
+    ∙ ap₂ unless c.before.are_numbers.ensures
+    (pieces (to_z-of_z (record { sfits = h.wide_at.type_inv }) ∙ h.wide_at.ensures) (to_z-of_z (record { sfits = z.wide_at-2.type_inv }) ∙ z.wide_at-2.ensures)
+    (to_z-of_z (record { sfits = m.narrow_at.type_inv }) ∙ m.narrow_at.ensures) (to_z-of_z (record { sfits = n.narrow_at-2.type_inv }) ∙ n.narrow_at-2.ensures))
 
 pub piece_spec : {M : Type 1} → statement M
 piece_spec =
     tie.close
     (tie.spec
-    wide_at_requires
-    wide_at_requires_2
-    narrow_at_requires
-    narrow_at_requires_2
-    are_numbers_requires
-    unless_faulty_requires
+    wide_at-requires
+    wide_at-requires-2
+    narrow_at-requires
+    narrow_at-requires-2
+    are_numbers-requires
+    unless_faulty-requires
     returns)

@@ -12,28 +12,25 @@ placed : (c : tie.After-place) → c.place.result ≡ place_of c.before.before.b
 unfolding words_after
 placed c = c.place.ensures
 
-slice_aggregate_place : tie.Need-slice-aggregate-place
-slice_aggregate_place c = search rules
+place-requires : tie.Need-place-requires
+place-requires c κs = search rules
 
-place_requires : tie.Need-place-requires
-place_requires c κs = search rules
+returns-in-0 : tie.Need-returns-in-0
+returns-in-0 c = chosen_at shown_table _ _ (sym c.in_default.keys1 ∙ placed c.before) refl
 
-returns : tie.Need-returns
-returns c = chosen_at shown_table _ _ (sym c.match.keys1 ∙ placed c.before) refl
+returns-in-1 : tie.Need-returns-in-1
+returns-in-1 c = chosen_at shown_table _ _ (sym c.in_default.keys2 ∙ placed c.before) refl
 
-returns_2 : tie.Need-returns-2
-returns_2 c = chosen_at shown_table _ _ (sym c.match.keys2 ∙ placed c.before) refl
+returns-in-2 : tie.Need-returns-in-2
+returns-in-2 c = chosen_at shown_table _ _ (sym c.in_default.keys3 ∙ placed c.before) refl
 
-returns_3 : tie.Need-returns-3
-returns_3 c = chosen_at shown_table _ _ (sym c.match.keys3 ∙ placed c.before) refl
+returns-in-3 : tie.Need-returns-in-3
+returns-in-3 c = chosen_at shown_table _ _ (sym c.in_default.keys4 ∙ placed c.before) refl
 
-returns_4 : tie.Need-returns-4
-returns_4 c = chosen_at shown_table _ _ (sym c.match.keys4 ∙ placed c.before) refl
-
-returns_5 : tie.Need-returns-5
-returns_5 c = none_chosen shown_table _ _ (placed c.before) c.match.rest
+returns-in_default : tie.Need-returns-in_default
+returns-in_default c = none_chosen shown_table _ _ (placed c.before) c.in_default.rest
 
 pub shown_spec : {M : Type 1} → statement M
 shown_spec =
     tie.close
-    (tie.spec slice_aggregate_place place_requires returns returns_2 returns_3 returns_4 returns_5)
+    (tie.spec slice_aggregate_place place-requires returns-in-0 returns-in-1 returns-in-2 returns-in-3 returns-in_default)

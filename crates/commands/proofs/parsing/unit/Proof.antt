@@ -6,36 +6,36 @@ use Rattle.commands.specs.Commands.{unless, unit_said}
 use Rattle.commands.proofs.parsing.unit.Statement.{statement}
 use Rattle.commands.proofs.parsing.unit.Tie as tie
 
-word_at_requires : tie.Need-word-at-requires
-word_at_requires c κs = search rules
+word_at-requires : tie.Need-word_at-requires
+word_at-requires c κs = search rules
 
-whole_requires : tie.Need-whole-requires
-whole_requires c κs = search rules
+whole-said-requires : tie.Need-whole-said-requires
+whole-said-requires c κs = search rules
 
-are_words_requires : tie.Need-are-words-requires
-are_words_requires c κs = search rules
+are_words-requires : tie.Need-are_words-requires
+are_words-requires c κs = search rules
 
-unit_said_requires : tie.Need-unit-said-requires
-unit_said_requires c κs = search rules
+unit_said-requires : tie.Need-unit_said-requires
+unit_said-requires c κs = search rules
 
-unless_faulty_requires : tie.Need-unless-faulty-requires
-unless_faulty_requires c κs = search rules
+unless_faulty-requires : tie.Need-unless_faulty-requires
+unless_faulty-requires c κs = search rules
 
 returns : tie.Need-returns
 returns c =
     let unit = c.before in
     let counted = unit.before in
     let said = counted.before in
-    c.unless-faulty.ensures
-    ∙ ap₂ unless counted.are_words.ensures (unit.unit-said.ensures ∙ ap unit_said (said.whole.ensures ∙ ap number_of said.before.word_at.ensures))
+    c.unless_faulty.ensures
+    ∙ ap₂ unless counted.are_words.ensures (unit.unit_said.ensures ∙ ap unit_said (said.whole-said.ensures ∙ ap number_of said.before.word_at.ensures))
 
 pub unit_spec : {M : Type 1} → statement M
 unit_spec =
     tie.close
     (tie.spec
-    word_at_requires
-    whole_requires
-    are_words_requires
-    unit_said_requires
-    unless_faulty_requires
+    word_at-requires
+    whole-said-requires
+    are_words-requires
+    unit_said-requires
+    unless_faulty-requires
     returns)

@@ -43,20 +43,20 @@ number c = to_z w64 (of_z w64 c.args.n)
 itself : (c : tie.Start) → unit_is (number c) ≡ unit_is c.args.n
 itself c = ap unit_is (to_z-of_z c.ranges.n)
 
-within : (c : tie.Else2) → Unsigned (number c.before.before)
-within c = unsigned (number c.before.before) c.before.if1.false c.if2.false
+within : (c : tie.Else-n-gt-MOST) → Unsigned (number c.before.before)
+within c = unsigned (number c.before.before) c.before.if-n-lt0.false c.if-n-gt-MOST.false
+
+returns-then-n-lt0 : tie.Need-returns-then-n-lt0
+returns-then-n-lt0 c = negative (number c.before) c.if-n-lt0.true ∙ itself c.before
+
+returns-then-n-gt-MOST : tie.Need-returns-then-n-gt-MOST
+returns-then-n-gt-MOST c = above (number c.before.before) c.if-n-gt-MOST.true ∙ itself c.before.before
+
+overflow_cast-result : tie.Need-overflow_cast-result
+overflow_cast-result c = ((within c).not_negative, record { fits = omega (arith, (within c).small) })
 
 returns : tie.Need-returns
-returns c = negative (number c.before) c.if1.true ∙ itself c.before
-
-returns_2 : tie.Need-returns-2
-returns_2 c = above (number c.before.before) c.if2.true ∙ itself c.before.before
-
-cast_t5 : tie.Need-overflow-cast-t5
-cast_t5 c = ((within c).not_negative, record { fits = omega (arith, (within c).small) })
-
-returns_3 : tie.Need-returns-3
-returns_3 c = (within c).taken ∙ itself c.before.before
+returns c = (within c).taken ∙ itself c.before.before
 
 pub unit_is_spec : {M : Type 1} → statement M
-unit_is_spec = tie.close (tie.spec returns returns_2 cast_t5 returns_3)
+unit_is_spec = tie.close (tie.spec returns-then-n-lt0 returns-then-n-gt-MOST overflow_cast-result returns)

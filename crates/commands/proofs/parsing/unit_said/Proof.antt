@@ -8,38 +8,38 @@ use Rattle.commands.specs.Commands.{unit_is, unit_said}
 use Rattle.commands.proofs.parsing.unit_said.Statement.{statement}
 use Rattle.commands.proofs.parsing.unit_said.Tie as tie
 
-enum_known_said : tie.Need-enum-known-said
-enum_known_said c = search rules
+enum_known-said : tie.Need-enum_known-said
+enum_known-said c = search rules
 
-unit_is_requires : tie.Need-unit-is-requires
-unit_is_requires c κs = search rules
+unit_is-requires : tie.Need-unit_is-requires
+unit_is-requires c κs = search rules
 
-enum_told : tie.Need-enum-told
-enum_told c = search rules
+enum_told-1 : tie.Need-enum_told-1
+enum_told-1 c = search rules
 
-enum_told_2 : tie.Need-enum-told-2
-enum_told_2 c = search rules
+enum_told-in-TooLarge : tie.Need-enum_told-in-TooLarge
+enum_told-in-TooLarge c = search rules
 
-returns : tie.Need-returns
-returns c =
-    let said = c.before.before.said in
+returns-in-Is : tie.Need-returns-in-Is
+returns-in-Is c =
+    let said = c.before.before.said-1 in
     let fits : SFits w64 said.given.0.0 = search rules in
-    c.unit-is.ensures ∙ ap unit_is (to_z-of_z fits) ∙ sym (ap unit_said said.given.1)
+    c.unit_is.ensures ∙ ap unit_is (to_z-of_z fits) ∙ sym (ap unit_said said.given.1)
 
-returns_2 : tie.Need-returns-2
-returns_2 c = sym (ap unit_said c.enum_told.given.1)
+returns-in-NotDecimal : tie.Need-returns-in-NotDecimal
+returns-in-NotDecimal c = sym (ap unit_said c.enum_told-1.given.1)
 
-returns_3 : tie.Need-returns-3
-returns_3 c = sym (ap unit_said c.enum-told2.given.1)
+returns-in-TooLarge : tie.Need-returns-in-TooLarge
+returns-in-TooLarge c = sym (ap unit_said c.enum_told-in-TooLarge-1.given.1)
 
 pub unit_said_spec : {M : Type 1} → statement M
 unit_said_spec =
     tie.close
     (tie.spec
-    enum_known_said
-    unit_is_requires
-    enum_told
-    enum_told_2
-    returns
-    returns_2
-    returns_3)
+    enum_known-said
+    unit_is-requires
+    enum_told-1
+    enum_told-in-TooLarge
+    returns-in-Is
+    returns-in-NotDecimal
+    returns-in-TooLarge)

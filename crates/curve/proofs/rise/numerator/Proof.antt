@@ -8,36 +8,36 @@ use Rattle.curve.proofs.rise.numerator.Tie as tie
 
 abbrev given : tie.Start → List Known
 given s =
-    known s.args.first _ s.requires.0.one
-    ∷ known s.args.second _ s.requires.0.two
-    ∷ known s.args.third _ s.requires.0.three
-    ∷ known_width s.args.h s.requires.1.0
-    ∷ known_inside s.args.t s.requires.1.0 s.requires.1.1
+    known s.args.first _ s.requires.small.one
+    ∷ known s.args.second _ s.requires.small.two
+    ∷ known s.args.third _ s.requires.small.three
+    ∷ known_width s.args.h s.requires.width_within
+    ∷ known_inside s.args.t s.requires.width_within s.requires.between
     ∷ []
 
-mul_result : tie.Need-overflow-mul-result
-mul_result c = fits (given c) (search code depth 30 fits 9000) tt
+overflow_mul-result : tie.Need-overflow_mul-result
+overflow_mul-result c = fits (given c) (search code depth 30 fits 9000) tt
 
-mul_result_2 : tie.Need-overflow-mul-result-2
-mul_result_2 c = fits (given c) (search code depth 30 fits 9000) tt
+overflow_mul-result-2 : tie.Need-overflow_mul-result-2
+overflow_mul-result-2 c = fits (given c) (search code depth 30 fits 9000) tt
 
-add_result : tie.Need-overflow-add-result
-add_result c = fits (given c) (search code depth 30 fits 9000) tt
+overflow_add-result : tie.Need-overflow_add-result
+overflow_add-result c = fits (given c) (search code depth 30 fits 9000) tt
 
-mul_result_3 : tie.Need-overflow-mul-result-3
-mul_result_3 c = fits (given c) (search code depth 30 fits 9000) tt
+overflow_mul-result-3 : tie.Need-overflow_mul-result-3
+overflow_mul-result-3 c = fits (given c) (search code depth 30 fits 9000) tt
 
-mul_result_4 : tie.Need-overflow-mul-result-4
-mul_result_4 c = fits (given c) (search code depth 30 fits 9000) tt
+overflow_mul-result-4 : tie.Need-overflow_mul-result-4
+overflow_mul-result-4 c = fits (given c) (search code depth 30 fits 9000) tt
 
-mul_result_5 : tie.Need-overflow-mul-result-5
-mul_result_5 c = fits (given c) (search code depth 30 fits 9000) tt
+overflow_mul-result-5 : tie.Need-overflow_mul-result-5
+overflow_mul-result-5 c = fits (given c) (search code depth 30 fits 9000) tt
 
-add_result_2 : tie.Need-overflow-add-result-2
-add_result_2 c = fits (given c) (search code depth 30 fits 9000) tt
+overflow_add-result-2 : tie.Need-overflow_add-result-2
+overflow_add-result-2 c = fits (given c) (search code depth 30 fits 9000) tt
 
-mul_result_6 : tie.Need-overflow-mul-result-6
-mul_result_6 c = fits (given c) (search code depth 30 fits 9000) tt
+overflow_mul-result-6 : tie.Need-overflow_mul-result-6
+overflow_mul-result-6 c = fits (given c) (search code depth 30 fits 9000) tt
 
 -- `∙ refl` compares the plain value alone, so that another step is refused in plain sight
 returns : tie.Need-returns
@@ -47,12 +47,12 @@ pub numerator_spec : {M : Type 1} → statement M
 numerator_spec =
     tie.close
     (tie.spec
-    mul_result
-    mul_result_2
-    add_result
-    mul_result_3
-    mul_result_4
-    mul_result_5
-    add_result_2
-    mul_result_6
+    overflow_mul-result
+    overflow_mul-result-2
+    overflow_add-result
+    overflow_mul-result-3
+    overflow_mul-result-4
+    overflow_mul-result-5
+    overflow_add-result-2
+    overflow_mul-result-6
     returns)

@@ -29,27 +29,21 @@ given s =
     ∷ known_inside s.args.t s.requires.width s.requires.place
     ∷ []
 
-coefficients_requires : tie.Need-coefficients-requires
-coefficients_requires c κs = (
-  as_coded₁ (given c) UnitSize (search arguments depth 30 fits 9000) tt c.requires.unit,
-  (
-    as_coded₁ (given c) WidthWithin (search arguments depth 30 fits 9000) tt c.requires.width,
-    as_coded₁ (given c) RiseWithin (search arguments depth 30 fits 9000) tt c.requires.rise,
-  ),
-)
+coefficients-cubic-requires : tie.Need-coefficients-cubic-requires
+coefficients-cubic-requires c κs = record { unit_size = as_coded₁ (given c) UnitSize (search arguments depth 30 fits 9000) tt c.requires.unit; width_within = as_coded₁ (given c) WidthWithin (search arguments depth 30 fits 9000) tt c.requires.width; rise_within = as_coded₁ (given c) RiseWithin (search arguments depth 30 fits 9000) tt c.requires.rise }
 
 -- ---- the coefficients
 
-module _ (c : tie.After-coefficients) where
+module _ (c : tie.After-coefficients-cubic) where
   abbrev s : tie.Start
   s = c.before
 
-  are : let r = c.coefficients.result in Coefficients s.args.unit s.args.h s.args.z s.args.m s.args.n r.first r.second r.third
+  are : let r = c.coefficients-cubic.result in Coefficients s.args.unit s.args.h s.args.z s.args.m s.args.n r.first r.second r.third
   are =
-      let r = c.coefficients.result in
-      plainly₅ (given s) (λ (U h z m n : ℤ). Coefficients U h z m n r.first r.second r.third) c.coefficients.ensures (search code depth 30 fits 9000) (search arguments depth 30 fits 9000) tt
+      let r = c.coefficients-cubic.result in
+      plainly₅ (given s) (λ (U h z m n : ℤ). Coefficients U h z m n r.first r.second r.third) c.coefficients-cubic.ensures (search code depth 30 fits 9000) (search arguments depth 30 fits 9000) tt
 
-  small : let r = c.coefficients.result in Small r.first r.second r.third
+  small : let r = c.coefficients-cubic.result in Small r.first r.second r.third
   small =
       let k = monotone_small {M = 268435456} s.pre.monotone (sized (given s) (search code depth 30 fits 9000) tt) in
       record {
@@ -60,28 +54,22 @@ module _ (c : tie.After-coefficients) where
 
   abbrev with_cubic : List Known
   with_cubic =
-      let r = c.coefficients.result in known r.first _ small.one ∷ known r.second _ small.two ∷ known r.third _ small.three ∷ given s
+      let r = c.coefficients-cubic.result in known r.first _ small.one ∷ known r.second _ small.two ∷ known r.third _ small.three ∷ given s
 
-numerator_requires : tie.Need-numerator-requires
-numerator_requires c κs =
+numerator-above-requires : tie.Need-numerator-above-requires
+numerator-above-requires c κs =
     let p = c.before.before.before in
-    let Γ = with_cubic p in (
-      as_coded₃ Γ Small (search arguments depth 30 fits 9000) tt (small p),
-      (
-        as_coded₁ Γ WidthWithin (search arguments depth 30 fits 9000) tt p.before.requires.width,
-        as_coded₂ Γ (Between (pos 0)) (search arguments depth 30 fits 9000) tt p.before.requires.place,
-      ),
-    )
+    let Γ = with_cubic p in record { small = as_coded₃ Γ Small (search arguments depth 30 fits 9000) tt (small p); width_within = as_coded₁ Γ WidthWithin (search arguments depth 30 fits 9000) tt p.before.requires.width; between = as_coded₂ Γ (Between (pos 0)) (search arguments depth 30 fits 9000) tt p.before.requires.place }
 
 -- ---- the numerator
 
-is_cubic : (c : tie.After-numerator) → let s = c.before.before.before.before.before.args in c.numerator.result ≡ numerator s.unit s.h s.z s.m s.n s.t
+is_cubic : (c : tie.After-numerator-above) → let s = c.before.before.before.before.before.args in c.numerator-above.result ≡ numerator s.unit s.h s.z s.m s.n s.t
 is_cubic c =
     let p = c.before.before.before.before in
-    c.numerator.ensures ∙ plain_is {Γ = with_cubic p} (search code depth 30 fits 9000) tt ∙ by_coefficients (are p) p.before.args.t
+    c.numerator-above.ensures ∙ plain_is {Γ = with_cubic p} (search code depth 30 fits 9000) tt ∙ by_coefficients (are p) p.before.args.t
 
 -- nowhere larger than at the right end, where it is Z·h³
-cubic_within : (c : tie.After-numerator) → Within 288230376151711744 c.numerator.result
+cubic_within : (c : tie.After-numerator-above) → Within 288230376151711744 c.numerator-above.result
 cubic_within c =
     let s = c.before.before.before.before.before in
     subst (Within _) (sym (is_cubic c))
@@ -89,38 +77,38 @@ cubic_within c =
 
 -- ---- the denominator, and the quotient
 
-mul_nearest_div : tie.Need-overflow-mul-nearest-div
-mul_nearest_div c = fits (given c.before.before.before.before.before) (search code depth 30 fits 9000) tt
+overflow_mul-h : tie.Need-overflow_mul-h
+overflow_mul-h c = fits (given c.before.before.before.before.before) (search code depth 30 fits 9000) tt
 
-mul_nearest_div_2 : tie.Need-overflow-mul-nearest-div-2
-mul_nearest_div_2 c = fits (given c.before.before.before.before.before) (search code depth 30 fits 9000) tt
+overflow_mul-h-2 : tie.Need-overflow_mul-h-2
+overflow_mul-h-2 c = fits (given c.before.before.before.before.before) (search code depth 30 fits 9000) tt
 
-mul_nearest_div_3 : tie.Need-overflow-mul-nearest-div-3
-mul_nearest_div_3 c = fits (given c.before.before.before.before.before) (search code depth 30 fits 9000) tt
+overflow_mul-unit : tie.Need-overflow_mul-unit
+overflow_mul-unit c = fits (given c.before.before.before.before.before) (search code depth 30 fits 9000) tt
 
-nearest_div_requires : tie.Need-nearest-div-requires
-nearest_div_requires c κs = search rules
+nearest_div-requires : tie.Need-nearest_div-requires
+nearest_div-requires c κs = search rules
 
 -- what was divided by what
-quotient : (c : tie.After-nearest-div)
-    → let s = c.before.before.before.before.before.before.args in Rounded c.before.numerator.result (denominator s.unit s.h) c.nearest_div.result
+quotient : (c : tie.After-nearest_div)
+    → let s = c.before.before.before.before.before.before.args in Rounded c.before.numerator-above.result (denominator s.unit s.h) c.nearest_div.result
 quotient c =
     let s = c.before.before.before.before.before.before in
-    plainly₂ (known c.before.numerator.result _ (cubic_within c.before) ∷ given s) (λ (n d : ℤ). Rounded n d c.nearest_div.result) c.nearest_div.ensures (search arguments depth 30 fits 9000) tt
+    plainly₂ (known c.before.numerator-above.result _ (cubic_within c.before) ∷ given s) (λ (n d : ℤ). Rounded n d c.nearest_div.result) c.nearest_div.ensures (search arguments depth 30 fits 9000) tt
 
 returns : tie.Need-returns
 returns c =
     let s = c.before.before.before.before.before.before.args in
-    returned w64 c.nearest_div.type-inv (one_rounded (quotient c) (rounded_is _ _) ∙ ap (λ (v : ℤ). nearest_of v (denominator s.unit s.h)) (is_cubic c.before))
+    returned w64 c.nearest_div.type_inv (one_rounded (quotient c) (rounded_is _ _) ∙ ap (λ (v : ℤ). nearest_of v (denominator s.unit s.h)) (is_cubic c.before))
 
 pub risen_spec : {M : Type 1} → statement M
 risen_spec =
     tie.close
     (tie.spec
-    coefficients_requires
-    numerator_requires
-    mul_nearest_div
-    mul_nearest_div_2
-    mul_nearest_div_3
-    nearest_div_requires
+    coefficients-cubic-requires
+    numerator-above-requires
+    overflow_mul-h
+    overflow_mul-h-2
+    overflow_mul-unit
+    nearest_div-requires
     returns)

@@ -9,51 +9,51 @@ use Rattle.decimals.specs.Digits.{digits_out, digits_stop, digits_on}
 use Rattle.decimals.proofs.reading.are_digits.Statement.{statement}
 use Rattle.decimals.proofs.reading.are_digits.Tie as tie
 
-abbrev invariant_loop : tie.invariant_loop
-invariant_loop text from i₀ i = are_digits (drop from text) ≡ are_digits (drop i text)
+abbrev invariant-loop-i : tie.invariant-loop-i
+invariant-loop-i text from i₀ i = are_digits (drop from text) ≡ are_digits (drop i text)
 
-abbrev decreases_loop : tie.decreases_loop
-decreases_loop text from i₀ i = length text - i
+abbrev decreases-loop-i : tie.decreases-loop-i
+decreases-loop-i text from i₀ i = length text - i
 
-loop_holds : tie.Need-loop-init invariant_loop decreases_loop
-loop_holds c = search rules
+loop-i-init : tie.Need-loop-i-init invariant-loop-i decreases-loop-i
+loop-i-init c = search rules
 
-shared_slice_read_is_digit : tie.Need-shared-slice-read-is-digit invariant_loop decreases_loop
-shared_slice_read_is_digit c = search rules
+bounds-text-i : tie.Need-bounds-text-i invariant-loop-i decreases-loop-i
+bounds-text-i c = search rules
 
-is_digit_requires : tie.Need-is-digit-requires invariant_loop decreases_loop
-is_digit_requires c κs = search rules
+is_digit-requires : tie.Need-is_digit-requires invariant-loop-i decreases-loop-i
+is_digit-requires c κs = search rules
 
-returns : tie.Need-returns invariant_loop decreases_loop
-returns c =
+returns-then-not-is_digit : tie.Need-returns-then-not-is_digit invariant-loop-i decreases-loop-i
+returns-then-not-is_digit c =
     let here = c.before.before.before.before in
-    sym (here.loop.invariant ∙ digits_stop _ _ c.before.before.before.loop-test.true (sym c.before.is_digit.ensures ∙ not-true _ c.if1.true))
+    sym (here.loop-i.invariant ∙ digits_stop _ _ c.before.before.before.loop-i-test.true (sym c.before.is_digit.ensures ∙ not-true _ c.if-not-is_digit.true))
 
-add_i : tie.Need-overflow-add-i invariant_loop decreases_loop
-add_i c = search rules
+overflow_add-i : tie.Need-overflow_add-i invariant-loop-i decreases-loop-i
+overflow_add-i c = search rules
 
-loop_less : tie.Need-loop-smaller invariant_loop decreases_loop
-loop_less c = search rules
+loop-i-smaller : tie.Need-loop-i-smaller invariant-loop-i decreases-loop-i
+loop-i-smaller c = search rules
 
-loop_again : tie.Need-loop-preserved invariant_loop decreases_loop
-loop_again c =
+loop-i-preserved : tie.Need-loop-i-preserved invariant-loop-i decreases-loop-i
+loop-i-preserved c =
     let here = c.before.before.before.before in
-    here.loop.invariant ∙ digits_on _ _ c.before.before.before.loop-test.true (sym c.before.is_digit.ensures ∙ not-false _ c.if1.false)
+    here.loop-i.invariant ∙ digits_on _ _ c.before.before.before.loop-i-test.true (sym c.before.is_digit.ensures ∙ not-false _ c.if-not-is_digit.false)
 
-returns_2 : tie.Need-returns-2 invariant_loop decreases_loop
-returns_2 c = sym (c.before.loop.invariant ∙ digits_out _ _ c.loop-test.false)
+returns : tie.Need-returns invariant-loop-i decreases-loop-i
+returns c = sym (c.before.loop-i.invariant ∙ digits_out _ _ c.loop-i-test.false)
 
 pub are_digits_spec : {M : Type 1} → statement M
 are_digits_spec =
     tie.close
     (tie.spec
-    invariant_loop
-    decreases_loop
-    loop_holds
-    shared_slice_read_is_digit
-    is_digit_requires
-    returns
-    add_i
-    loop_less
-    loop_again
-    returns_2)
+    invariant-loop-i
+    decreases-loop-i
+    loop-i-init
+    bounds-text-i
+    is_digit-requires
+    returns-then-not-is_digit
+    overflow_add-i
+    loop-i-smaller
+    loop-i-preserved
+    returns)

@@ -9,25 +9,25 @@ use borrow.Author.Rules.{rules}
 use Rattle.decimals.proofs.reading.digits.Statement.{statement}
 use Rattle.decimals.proofs.reading.digits.Tie as tie
 
-some_left : (c : tie.Else1) → 0 < length (drop c.before.before.args.from c.before.before.args.text.now)
+some_left : (c : tie.Else-text-from) → 0 < length (drop c.before.before.args.from c.before.before.args.text.now)
 some_left c = rw length-drop (omega arith)
 
-returns : tie.Need-returns
-returns c = rw (drop_of_length-le _ c.if1.true)
+returns-then-text-from : tie.Need-returns-then-text-from
+returns-then-text-from c = rw (drop_of_length-le _ c.if-text-from.true)
 
-are_digits_requires : tie.Need-are-digits-requires
-are_digits_requires c κs = search rules
+are_digits-requires : tie.Need-are_digits-requires
+are_digits-requires c κs = search rules
 
-value_requires : tie.Need-value-requires
-value_requires c κs = (sym c.before.are-digits.ensures ∙ c.if2.true, search rules)
+value-requires : tie.Need-value-requires
+value-requires c κs = record { text_value = sym c.before.are_digits.ensures ∙ c.if-are_digits.true; le_most = search rules }
 
-returns_2 : tie.Need-returns-2
-returns_2 c =
+returns-then-are_digits : tie.Need-returns-then-are_digits
+returns-then-are_digits c =
     let all = c.before.before in
-    c.value.ensures ∙ read_digits _ _ true (some_left all.before) (sym all.are-digits.ensures ∙ c.before.if2.true)
+    c.value.ensures ∙ read_digits _ _ true (some_left all.before) (sym all.are_digits.ensures ∙ c.before.if-are_digits.true)
 
-returns_3 : tie.Need-returns-3
-returns_3 c = read_digits _ _ false (some_left c.before.before) (sym c.before.are-digits.ensures ∙ c.if2.false)
+returns-else-are_digits : tie.Need-returns-else-are_digits
+returns-else-are_digits c = read_digits _ _ false (some_left c.before.before) (sym c.before.are_digits.ensures ∙ c.if-are_digits.false)
 
 pub digits_spec : {M : Type 1} → statement M
-digits_spec = tie.close (tie.spec returns are_digits_requires value_requires returns_2 returns_3)
+digits_spec = tie.close (tie.spec returns-then-text-from are_digits-requires value-requires returns-then-are_digits returns-else-are_digits)

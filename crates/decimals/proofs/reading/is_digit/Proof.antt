@@ -3,11 +3,11 @@ use borrow.Author.Tests.{lt-ltb, le-ltb}
 use Rattle.decimals.proofs.reading.is_digit.Statement.{statement}
 use Rattle.decimals.proofs.reading.is_digit.Tie as tie
 
-returns : tie.Need-returns
-returns c = rw (lt-ltb _ _ c.if1.true)
+returns-then-b-lt48 : tie.Need-returns-then-b-lt48
+returns-then-b-lt48 c = rw (lt-ltb _ _ c.if-b-lt48.true)
 
-returns_2 : tie.Need-returns-2
-returns_2 c = rw (le-ltb _ _ c.if1.false)
+returns : tie.Need-returns
+returns c = rw (le-ltb _ _ c.if-b-lt48.false)
 
 pub is_digit_spec : {M : Type 1} → statement M
-is_digit_spec = tie.close (tie.spec returns returns_2)
+is_digit_spec = tie.close (tie.spec returns-then-b-lt48 returns)

@@ -20,23 +20,23 @@ opposite zero h = absurd (omega arith)
 opposite (suc n) h = simp unary_clauses
 
 -- one less than the number, taken from -1
-less : (c : tie.Else1) → negsuc 0 -ℤ to_z w64 (c.before.args.n - 1) ≡ negsuc (c.before.args.n - 1)
+less : (c : tie.Else-n-eq0) → negsuc 0 -ℤ to_z w64 (c.before.args.n - 1) ≡ negsuc (c.before.args.n - 1)
 less c = ap (λ (z : ℤ). negsuc 0 -ℤ z) (to_z_pos w64 {n = c.before.args.n - 1} (omega arith)) ∙ from_minus_one _
 
+returns-then-n-eq0 : tie.Need-returns-then-n-eq0
+returns-then-n-eq0 c = rw c.if-n-eq0.true
+
+overflow_sub-result : tie.Need-overflow_sub-result
+overflow_sub-result c = search rules
+
+overflow_cast-result : tie.Need-overflow_cast-result
+overflow_cast-result c = search rules
+
+overflow_sub-result-2 : tie.Need-overflow_sub-result-2
+overflow_sub-result-2 c = subst⁻¹ (SFits w64) (less c) (record { sfits = omega arith })
+
 returns : tie.Need-returns
-returns c = rw c.if1.true
-
-sub_result : tie.Need-overflow-sub-result
-sub_result c = search rules
-
-cast_result : tie.Need-overflow-cast-result
-cast_result c = search rules
-
-sub_result_2 : tie.Need-overflow-sub-result-2
-sub_result_2 c = subst⁻¹ (SFits w64) (less c) (record { sfits = omega arith })
-
-returns_2 : tie.Need-returns-2
-returns_2 c = to_z-of_z (sub_result_2 c) ∙ less c ∙ opposite c.before.args.n (omega arith)
+returns c = to_z-of_z (overflow_sub-result-2 c) ∙ less c ∙ opposite c.before.args.n (omega arith)
 
 pub negated_spec : {M : Type 1} → statement M
-negated_spec = tie.close (tie.spec returns sub_result cast_result sub_result_2 returns_2)
+negated_spec = tie.close (tie.spec returns-then-n-eq0 overflow_sub-result overflow_cast-result overflow_sub-result-2 returns)

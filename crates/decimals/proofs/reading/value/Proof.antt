@@ -13,90 +13,90 @@ use Rattle.decimals.specs.Digits.{digits_on, natural_out, natural_on, first_digi
 use Rattle.decimals.proofs.reading.value.Statement.{statement}
 use Rattle.decimals.proofs.reading.value.Tie as tie
 
-abbrev invariant_loop : tie.invariant_loop
-invariant_loop text from most sum₀ i₀ sum i =
+abbrev invariant-loop-i : tie.invariant-loop-i
+invariant-loop-i text from most sum₀ i₀ sum i =
     (sum ≤ most) × (are_digits (drop i text) ≡ true) × (natural 0 (drop from text) ≡ natural sum (drop i text))
 
-abbrev decreases_loop : tie.decreases_loop
-decreases_loop text from most sum₀ i₀ sum i = length text - i
+abbrev decreases-loop-i : tie.decreases-loop-i
+decreases-loop-i text from most sum₀ i₀ sum i = length text - i
 
 -- the byte that a turn reads is a digit
-abbrev text : tie.In-loop invariant_loop decreases_loop → List ℕ
+abbrev text : tie.In-loop-i invariant-loop-i decreases-loop-i → List ℕ
 text c = c.before.before.args.text.now
 
-abbrev byte : tie.In-loop invariant_loop decreases_loop → ℕ
-byte c = get_or (text c) c.before.loop.i 0
+abbrev byte : tie.In-loop-i invariant-loop-i decreases-loop-i → ℕ
+byte c = get_or (text c) c.before.loop-i.i 0
 
-digit : (c : tie.In-loop invariant_loop decreases_loop) → is_digit (byte c) ≡ true
-digit c = first_digit _ _ c.loop-test.true c.before.loop.invariant.1
+digit : (c : tie.In-loop-i invariant-loop-i decreases-loop-i) → is_digit (byte c) ≡ true
+digit c = first_digit _ _ c.loop-i-test.true c.before.loop-i.invariant.1
 
-bounds : (c : tie.In-loop invariant_loop decreases_loop) → (48 ≤ byte c) × (byte c ≤ 57)
+bounds : (c : tie.In-loop-i invariant-loop-i decreases-loop-i) → (48 ≤ byte c) × (byte c ≤ 57)
 bounds c = digit_bounds (byte c) (digit c)
 
 -- the value once the byte is read, before the digits that follow
-more : (c : tie.In-loop invariant_loop decreases_loop)
-    → natural 0 (drop c.before.before.args.from (text c)) ≡ natural (c.before.loop.sum * 10 + (byte c - 48)) (drop (c.before.loop.i + 1) (text c))
-more c = c.before.loop.invariant.2 ∙ natural_on _ _ c.loop-test.true _
+more : (c : tie.In-loop-i invariant-loop-i decreases-loop-i)
+    → natural 0 (drop c.before.before.args.from (text c)) ≡ natural (c.before.loop-i.sum * 10 + (byte c - 48)) (drop (c.before.loop-i.i + 1) (text c))
+more c = c.before.loop-i.invariant.2 ∙ natural_on _ _ c.loop-i-test.true _
 
-loop_holds : tie.Need-loop-init invariant_loop decreases_loop
-loop_holds c = (omega arith, c.requires.0, refl)
+loop-i-init : tie.Need-loop-i-init invariant-loop-i decreases-loop-i
+loop-i-init c = (omega arith, c.requires.text_value, refl)
 
-shared_slice_read_digit : tie.Need-shared-slice-read-digit invariant_loop decreases_loop
-shared_slice_read_digit c = search rules
+bounds-text-i : tie.Need-bounds-text-i invariant-loop-i decreases-loop-i
+bounds-text-i c = search rules
 
-sub_digit : tie.Need-overflow-sub-digit invariant_loop decreases_loop
-sub_digit c = let d = bounds c.before in omega arith
+overflow_sub-digit : tie.Need-overflow_sub-digit invariant-loop-i decreases-loop-i
+overflow_sub-digit c = let d = bounds c.before in omega arith
 
-cast_digit : tie.Need-overflow-cast-digit invariant_loop decreases_loop
-cast_digit c = let d = bounds c.before in omega arith
+overflow_cast-digit : tie.Need-overflow_cast-digit invariant-loop-i decreases-loop-i
+overflow_cast-digit c = let d = bounds c.before in omega arith
 
-sub_if1 : tie.Need-overflow-sub-if1 invariant_loop decreases_loop
-sub_if1 c = let d = bounds c.before in omega arith
+overflow_sub-most : tie.Need-overflow_sub-most invariant-loop-i decreases-loop-i
+overflow_sub-most c = let d = bounds c.before in omega arith
 
-returns : tie.Need-returns invariant_loop decreases_loop
-returns c =
+returns-then-most-digit : tie.Need-returns-then-most-digit invariant-loop-i decreases-loop-i
+returns-then-most-digit c =
     let here = c.before.before in
     let d = bounds here in
-    let sum = here.before.loop.sum * 10 + (byte here - 48) in
-    let rest = drop (here.before.loop.i + 1) (text here) in
+    let sum = here.before.loop-i.sum * 10 + (byte here - 48) in
+    let rest = drop (here.before.loop-i.i + 1) (text here) in
     rw (more here, lt-leb (natural sum rest) here.before.before.args.most (omega (arith, natural_least sum rest)))
 
-mul_sum : tie.Need-overflow-mul-sum invariant_loop decreases_loop
-mul_sum c = let d = bounds c.before.before in omega arith
+overflow_mul-sum : tie.Need-overflow_mul-sum invariant-loop-i decreases-loop-i
+overflow_mul-sum c = let d = bounds c.before.before in omega arith
 
-add_sum : tie.Need-overflow-add-sum invariant_loop decreases_loop
-add_sum c = let d = bounds c.before.before in omega arith
+overflow_add-sum : tie.Need-overflow_add-sum invariant-loop-i decreases-loop-i
+overflow_add-sum c = let d = bounds c.before.before in omega arith
 
-add_i : tie.Need-overflow-add-i invariant_loop decreases_loop
-add_i c = search rules
+overflow_add-i : tie.Need-overflow_add-i invariant-loop-i decreases-loop-i
+overflow_add-i c = search rules
 
-loop_less : tie.Need-loop-smaller invariant_loop decreases_loop
-loop_less c = search rules
+loop-i-smaller : tie.Need-loop-i-smaller invariant-loop-i decreases-loop-i
+loop-i-smaller c = search rules
 
-loop_again : tie.Need-loop-preserved invariant_loop decreases_loop
-loop_again c =
+loop-i-preserved : tie.Need-loop-i-preserved invariant-loop-i decreases-loop-i
+loop-i-preserved c =
     let here = c.before.before in
     let d = bounds here in
-    (omega arith, sym (digits_on _ _ here.loop-test.true (digit here)) ∙ here.before.loop.invariant.1, more here)
+    (omega arith, sym (digits_on _ _ here.loop-i-test.true (digit here)) ∙ here.before.loop-i.invariant.1, more here)
 
-returns_2 : tie.Need-returns-2 invariant_loop decreases_loop
-returns_2 c = rw (c.before.loop.invariant.2, natural_out _ _ c.before.loop.sum c.loop-test.false, le-leb _ _ c.before.loop.invariant.0)
+returns : tie.Need-returns invariant-loop-i decreases-loop-i
+returns c = rw (c.before.loop-i.invariant.2, natural_out _ _ c.before.loop-i.sum c.loop-i-test.false, le-leb _ _ c.before.loop-i.invariant.0)
 
 pub value_spec : {M : Type 1} → statement M
 value_spec =
     tie.close
     (tie.spec
-    invariant_loop
-    decreases_loop
-    loop_holds
-    shared_slice_read_digit
-    sub_digit
-    cast_digit
-    sub_if1
-    returns
-    mul_sum
-    add_sum
-    add_i
-    loop_less
-    loop_again
-    returns_2)
+    invariant-loop-i
+    decreases-loop-i
+    loop-i-init
+    bounds-text-i
+    overflow_sub-digit
+    overflow_cast-digit
+    overflow_sub-most
+    returns-then-most-digit
+    overflow_mul-sum
+    overflow_add-sum
+    overflow_add-i
+    loop-i-smaller
+    loop-i-preserved
+    returns)

@@ -20,49 +20,46 @@ use Rattle.decimals.proofs.writing.append_whole.Tie as tie
 itself : (c : tie.Start) → to_z w64 (of_z w64 c.args.n) ≡ c.args.n
 itself c = to_z-of_z c.ranges.n
 
-slice_aggregate_append : tie.Need-slice-aggregate-append
-slice_aggregate_append c = search rules
+append-signed-requires : tie.Need-append-signed-requires
+append-signed-requires c κs = search rules
 
-append_requires : tie.Need-append-requires
-append_requires c κs = search rules
+magnitude-requires : tie.Need-magnitude-requires
+magnitude-requires c κs = search rules
 
-magnitude_requires : tie.Need-magnitude-requires
-magnitude_requires c κs = search rules
+append_natural-requires : tie.Need-append_natural-requires
+append_natural-requires c κs = search rules
 
-append_natural_requires : tie.Need-append-natural-requires
-append_natural_requires c κs = search rules
+shape_of-into-then-n-lt0 : tie.Need-shape_of-into-then-n-lt0
+shape_of-into-then-n-lt0 c = search rules
 
-same_length : tie.Need-same-length
-same_length c = search rules
-
-returns : tie.Need-returns
-returns c =
+returns-then-n-lt0 : tie.Need-returns-then-n-lt0
+returns-then-n-lt0 c =
     let start = c.before.before.before.before.before.before.before.before.before.before.before.before in
     let n = start.args.n in
     let r = c.before.before.append_natural in
     let size = c.before.before.before.magnitude.ensures ∙ ap nat_abs (itself start) in
-    let minus = subst (λ (z : ℤ). lt_z z (pos 0) ≡ true) (itself start) c.before.before.before.before.before.before.before.before.before.before.if1.true in
+    let minus = subst (λ (z : ℤ). lt_z z (pos 0) ≡ true) (itself start) c.before.before.before.before.before.before.before.before.before.before.if-n-lt0.true in
     subst (λ (l : List ℕ). Appended start.args.into.now start.args.held l r.new.0 r.result)
     (ap (λ (k : ℕ). 45 ∷ decimal_of k) size ∙ negative_text n minus)
     (both {c = r.new.0} {s = r.result} {n = decimal_of c.before.before.before.magnitude.result}
-    c.before.before.before.before.before.before.before.append.ensures r.ensures)
+    c.before.before.before.before.before.before.before.append-signed.ensures r.ensures)
 
-magnitude_requires_2 : tie.Need-magnitude-requires-2
-magnitude_requires_2 c κs = search rules
+magnitude-requires-2 : tie.Need-magnitude-requires-2
+magnitude-requires-2 c κs = search rules
 
-append_natural_requires_2 : tie.Need-append-natural-requires-2
-append_natural_requires_2 c κs = search rules
+append_natural-requires-2 : tie.Need-append_natural-requires-2
+append_natural-requires-2 c κs = search rules
 
-same_length_2 : tie.Need-same-length-2
-same_length_2 c = search rules
+shape_of-into : tie.Need-shape_of-into
+shape_of-into c = search rules
 
-returns_2 : tie.Need-returns-2
-returns_2 c =
+returns : tie.Need-returns
+returns c =
     let start = c.before.before.before.before.before.before.before in
     let n = start.args.n in
-    let r = c.before.before.append-natural2 in
-    let size = c.before.before.before.magnitude2.ensures ∙ ap nat_abs (itself start) in
-    let plain = subst (λ (z : ℤ). lt_z z (pos 0) ≡ false) (itself start) c.before.before.before.before.before.if1.false in
+    let r = c.before.before.append_natural-2 in
+    let size = c.before.before.before.magnitude-2.ensures ∙ ap nat_abs (itself start) in
+    let plain = subst (λ (z : ℤ). lt_z z (pos 0) ≡ false) (itself start) c.before.before.before.before.before.if-n-lt0.false in
     subst (λ (l : List ℕ). Appended start.args.into.now start.args.held l r.new.0 r.result)
     (ap decimal_of size ∙ positive_text n plain)
     r.ensures
@@ -72,12 +69,12 @@ append_whole_spec =
     tie.close
     (tie.spec
     slice_aggregate_append
-    append_requires
-    magnitude_requires
-    append_natural_requires
-    same_length
-    returns
-    magnitude_requires_2
-    append_natural_requires_2
-    same_length_2
-    returns_2)
+    append-signed-requires
+    magnitude-requires
+    append_natural-requires
+    shape_of-into-then-n-lt0
+    returns-then-n-lt0
+    magnitude-requires-2
+    append_natural-requires-2
+    shape_of-into
+    returns)

@@ -19,15 +19,15 @@ returns c =
     let r = c.before.before.append_whole in
     subst (λ (n : ℤ). Appended s.args.into.now s.args.held (text_of n) r.new.0 r.result) (to_z-of_z (wide s) ∙ to_z-of_z s.ranges.n) r.ensures
 
-cast_append_whole : tie.Need-overflow-cast-append-whole
-cast_append_whole c = wide c.before.before
+overflow_cast-n : tie.Need-overflow_cast-n
+overflow_cast-n c = wide c.before.before
 
-append_whole_requires : tie.Need-append-whole-requires
-append_whole_requires c κs = search rules
+append_whole-requires : tie.Need-append_whole-requires
+append_whole-requires c κs = search rules
 
-same_length : tie.Need-same-length
-same_length c = search rules
+shape_of-into : tie.Need-shape_of-into
+shape_of-into c = search rules
 
 pub append_whole32_spec : {M : Type 1} → statement M
 append_whole32_spec =
-    tie.close (tie.spec cast_append_whole append_whole_requires same_length returns)
+    tie.close (tie.spec overflow_cast-n append_whole-requires shape_of-into returns)

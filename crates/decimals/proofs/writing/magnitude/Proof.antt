@@ -27,35 +27,35 @@ itself c = to_z-of_z c.ranges.n
 bound : (c : tie.Start) → nat_abs c.args.n ≤ 9223372036854775808
 bound c = nat_abs-le c.args.n c.ranges.n.sfits
 
-less : (c : tie.Then1) → (negsuc 0 -ℤ to_z w64 (of_z w64 c.before.args.n) ≡ pos (nat_abs c.before.args.n - 1)) × (0 < nat_abs c.before.args.n)
+less : (c : tie.Then-n-lt0) → (negsuc 0 -ℤ to_z w64 (of_z w64 c.before.args.n) ≡ pos (nat_abs c.before.args.n - 1)) × (0 < nat_abs c.before.args.n)
 less c =
-    let below = from_minus_one c.before.args.n (subst (λ (z : ℤ). lt_z z (pos 0) ≡ true) (itself c.before) c.if1.true) in
+    let below = from_minus_one c.before.args.n (subst (λ (z : ℤ). lt_z z (pos 0) ≡ true) (itself c.before) c.if-n-lt0.true) in
     (ap (λ (z : ℤ). negsuc 0 -ℤ z) (itself c.before) ∙ below.0, below.1)
 
-sub_result : tie.Need-overflow-sub-result
-sub_result c = subst⁻¹ (SFits w64) (less c).0 (record { sfits = omega (arith, bound c.before, (less c).1) })
+overflow_sub-result : tie.Need-overflow_sub-result
+overflow_sub-result c = subst⁻¹ (SFits w64) (less c).0 (record { sfits = omega (arith, bound c.before, (less c).1) })
 
 -- the difference, behind its bits
-made : (c : tie.Then1) → to_z w64 (of_z w64 (negsuc 0 -ℤ to_z w64 (of_z w64 c.before.args.n))) ≡ pos (nat_abs c.before.args.n - 1)
-made c = to_z-of_z (sub_result c) ∙ (less c).0
+made : (c : tie.Then-n-lt0) → to_z w64 (of_z w64 (negsuc 0 -ℤ to_z w64 (of_z w64 c.before.args.n))) ≡ pos (nat_abs c.before.args.n - 1)
+made c = to_z-of_z (overflow_sub-result c) ∙ (less c).0
 
-cast_result : tie.Need-overflow-cast-result
-cast_result c = subst⁻¹ (λ (z : ℤ). T (non_neg z) × Fits w64 (nat_abs z)) (made c) (tt, record { fits = omega (arith, bound c.before) })
+overflow_cast-result : tie.Need-overflow_cast-result
+overflow_cast-result c = subst⁻¹ (λ (z : ℤ). T (non_neg z) × Fits w64 (nat_abs z)) (made c) (tt, record { fits = omega (arith, bound c.before) })
 
-add_result : tie.Need-overflow-add-result
-add_result c = subst⁻¹ (λ (z : ℤ). Fits w64 (nat_abs z + 1)) (made c) (record { fits = omega (arith, bound c.before) })
+overflow_add-result : tie.Need-overflow_add-result
+overflow_add-result c = subst⁻¹ (λ (z : ℤ). Fits w64 (nat_abs z + 1)) (made c) (record { fits = omega (arith, bound c.before) })
 
-returns : tie.Need-returns
-returns c =
+returns-then-n-lt0 : tie.Need-returns-then-n-lt0
+returns-then-n-lt0 c =
     let one_more : nat_abs c.before.args.n - 1 + 1 ≡ nat_abs c.before.args.n = omega (arith, (less c).1) in
     ap (λ (z : ℤ). nat_abs z + 1) (made c) ∙ one_more
 
-cast_result_2 : tie.Need-overflow-cast-result-2
-cast_result_2 c = fits_natural c.before.args.n c.before.ranges.n c.if1.false
+overflow_cast-result-2 : tie.Need-overflow_cast-result-2
+overflow_cast-result-2 c = fits_natural c.before.args.n c.before.ranges.n c.if-n-lt0.false
 
-returns_2 : tie.Need-returns-2
-returns_2 c = search rules
+returns : tie.Need-returns
+returns c = search rules
 
 pub magnitude_spec : {M : Type 1} → statement M
 magnitude_spec =
-    tie.close (tie.spec sub_result cast_result add_result returns cast_result_2 returns_2)
+    tie.close (tie.spec overflow_sub-result overflow_cast-result overflow_add-result returns-then-n-lt0 overflow_cast-result-2 returns)

@@ -32,28 +32,28 @@ returns c =
     let last = whole_product binary64 (whole_sum binary64 (whole_product binary64 upper t within.upper_t) lower within.lower) t within.last in
     settled binary64 last zero_in_code within.last
 
-int_to_float_place : tie.Need-int-to-float-place
-int_to_float_place c = may c.before.requires.place
+int_to_float-place : tie.Need-int_to_float-place
+int_to_float-place c = may c.before.requires.place
 
-int_to_float_width : tie.Need-int-to-float-width
-int_to_float_width c = may c.before.before.requires.width
+int_to_float-width : tie.Need-int_to_float-width
+int_to_float-width c = may c.before.before.requires.width
 
-int_to_float_result : tie.Need-int-to-float-result
-int_to_float_result c = may c.before.before.before.requires.three
+int_to_float-result : tie.Need-int_to_float-result
+int_to_float-result c = may c.before.before.before.requires.three
 
-int_to_float_result_2 : tie.Need-int-to-float-result-2
-int_to_float_result_2 c = may c.before.before.before.before.requires.two
+int_to_float-result-2 : tie.Need-int_to_float-result-2
+int_to_float-result-2 c = may c.before.before.before.before.requires.two
 
-int_to_float_result_3 : tie.Need-int-to-float-result-3
-int_to_float_result_3 c = may c.before.before.before.before.before.requires.one
+int_to_float-result-3 : tie.Need-int_to_float-result-3
+int_to_float-result-3 c = may c.before.before.before.before.before.requires.one
 
 pub numerator_spec : {M : Type 1} → statement M
 numerator_spec =
     tie.close
     (tie.spec
-    int_to_float_place
-    int_to_float_width
-    int_to_float_result
-    int_to_float_result_2
-    int_to_float_result_3
+    int_to_float-place
+    int_to_float-width
+    int_to_float-result
+    int_to_float-result-2
+    int_to_float-result-3
     returns)

@@ -4,11 +4,11 @@ use mir.Facts.{to_z-of_z}
 use Rattle.exports.proofs.answers.negwafir_evaluate.Statement.{statement}
 use Rattle.exports.proofs.answers.negwafir_evaluate.Tie as tie
 
-evaluate_requires : tie.Need-evaluate-requires
-evaluate_requires c κs = search rules
+evaluate-requires : tie.Need-evaluate-requires
+evaluate-requires c κs = search rules
 
 returns : tie.Need-returns
 returns c = rw (to_z-of_z c.before.ranges.position) at c.evaluate.ensures
 
 pub negwafir_evaluate_spec : {M : Type 1} → statement M
-negwafir_evaluate_spec = tie.close (tie.spec evaluate_requires returns)
+negwafir_evaluate_spec = tie.close (tie.spec evaluate-requires returns)

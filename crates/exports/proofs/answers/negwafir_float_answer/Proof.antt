@@ -18,29 +18,29 @@ one_in_code : Exactly binary64 (pos 1) (of_bits binary64 4607182418800017408)
 unfolding of_bits
 one_in_code = record { held = of_bits-fits binary64 4607182418800017408; value = (refl, refl) }
 
-float_answer_requires : tie.Need-float-answer-requires
-float_answer_requires c κs = search rules
+float_answer-driven-requires : tie.Need-float_answer-driven-requires
+float_answer-driven-requires c κs = search rules
 
-enum_known_answer : tie.Need-enum-known-answer
-enum_known_answer c = search rules
+enum_known-answer : tie.Need-enum_known-answer
+enum_known-answer c = search rules
 
-enum_known_answer_2 : tie.Need-enum-known-answer-2
-enum_known_answer_2 c = search rules
+enum_known-answer-in-Move-1 : tie.Need-enum_known-answer-in-Move-1
+enum_known-answer-in-Move-1 c = search rules
 
 -- what `float_answer` says of the position as the code has it holds of the position itself
-said : (c : tie.After-float-answer)
+said : (c : tie.After-float_answer-driven)
     → let s = c.before.args in
-    let r = c.float-answer.result in
-    Driving (table s.s s.knots.now s.values.now s.slopes.now) s.position r.refusal.number r.refusal.place (told_of r.answer)
-said c = rw (to_z-of_z c.before.ranges.position) at c.float-answer.ensures
+    let r = c.float_answer-driven.result in
+    Driving (table s.s s.knots.now s.values.now s.slopes.now) s.position r.refusal-1.number r.refusal-1.place (told_of r.answer-1)
+said c = rw (to_z-of_z c.before.ranges.position) at c.float_answer-driven.ensures
 
-returns : tie.Need-returns
-returns c = dwells {level = c.before.answer.given.0.0} (rw c.before.answer.given.1 at (said c.before.before.before.before)) zero_in_code one_in_code
+returns-in-Dwell : tie.Need-returns-in-Dwell
+returns-in-Dwell c = dwells {level = c.before.answer-1.given.0.0} (rw c.before.answer-1.given.1 at (said c.before.before.before.before)) zero_in_code one_in_code
 
-returns_2 : tie.Need-returns-2
-returns_2 c = moves (rw c.before.answer2.given.1 at (said c.before.before.before.before))
+returns-in-Move : tie.Need-returns-in-Move
+returns-in-Move c = moves (rw c.before.answer-in-Move-1.given.1 at (said c.before.before.before.before))
 
 pub negwafir_float_answer_spec : {M : Type 1} → statement M
 negwafir_float_answer_spec =
     tie.close
-    (tie.spec float_answer_requires enum_known_answer enum_known_answer_2 returns returns_2)
+    (tie.spec float_answer-driven-requires enum_known-answer enum_known-answer-in-Move-1 returns-in-Dwell returns-in-Move)

@@ -4,11 +4,11 @@ use mir.Facts.{to_z-of_z}
 use Rattle.exports.proofs.answers.negwafir_locate.Statement.{statement}
 use Rattle.exports.proofs.answers.negwafir_locate.Tie as tie
 
-locate_requires : tie.Need-locate-requires
-locate_requires c κs = search rules
+locate-requires : tie.Need-locate-requires
+locate-requires c κs = search rules
 
 returns : tie.Need-returns
 returns c = rw (to_z-of_z c.before.ranges.position) at c.locate.ensures
 
 pub negwafir_locate_spec : {M : Type 1} → statement M
-negwafir_locate_spec = tie.close (tie.spec locate_requires returns)
+negwafir_locate_spec = tie.close (tie.spec locate-requires returns)

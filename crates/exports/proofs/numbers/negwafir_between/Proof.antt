@@ -4,11 +4,11 @@ use mir.Facts.{to_z-of_z}
 use Rattle.exports.proofs.numbers.negwafir_between.Statement.{statement}
 use Rattle.exports.proofs.numbers.negwafir_between.Tie as tie
 
-between_requires : tie.Need-between-requires
-between_requires c κs = search rules
+between-requires : tie.Need-between-requires
+between-requires c κs = search rules
 
 returns : tie.Need-returns
 returns c = rw (to_z-of_z c.before.ranges.low, to_z-of_z c.before.ranges.x, to_z-of_z c.before.ranges.high) at c.between.ensures
 
 pub negwafir_between_spec : {M : Type 1} → statement M
-negwafir_between_spec = tie.close (tie.spec between_requires returns)
+negwafir_between_spec = tie.close (tie.spec between-requires returns)

@@ -6,11 +6,11 @@ use Rattle.integers.specs.Sizes.{returned}
 use Rattle.exports.proofs.numbers.negwafir_floor_div.Statement.{statement}
 use Rattle.exports.proofs.numbers.negwafir_floor_div.Tie as tie
 
-floor_div_requires : tie.Need-floor-div-requires
-floor_div_requires c κs = search rules
+floor_div-requires : tie.Need-floor_div-requires
+floor_div-requires c κs = search rules
 
 returns : tie.Need-returns
-returns c = record { is = returned w64 c.floor_div.type-inv (rw (to_z-of_z c.before.ranges.n, to_z-of_z c.before.ranges.d) at c.floor_div.ensures.is) }
+returns c = record { is = returned w64 c.floor_div.type_inv (rw (to_z-of_z c.before.ranges.n, to_z-of_z c.before.ranges.d) at c.floor_div.ensures.is) }
 
 pub negwafir_floor_div_spec : {M : Type 1} → statement M
-negwafir_floor_div_spec = tie.close (tie.spec floor_div_requires returns)
+negwafir_floor_div_spec = tie.close (tie.spec floor_div-requires returns)

@@ -4,11 +4,11 @@ use mir.Facts.{to_z-of_z}
 use Rattle.exports.proofs.numbers.negwafir_width_within.Statement.{statement}
 use Rattle.exports.proofs.numbers.negwafir_width_within.Tie as tie
 
-width_within_requires : tie.Need-width-within-requires
-width_within_requires c κs = search rules
+width_within-requires : tie.Need-width_within-requires
+width_within-requires c κs = search rules
 
 returns : tie.Need-returns
 returns c = rw (to_z-of_z c.before.ranges.h) at c.width_within.ensures
 
 pub negwafir_width_within_spec : {M : Type 1} → statement M
-negwafir_width_within_spec = tie.close (tie.spec width_within_requires returns)
+negwafir_width_within_spec = tie.close (tie.spec width_within-requires returns)

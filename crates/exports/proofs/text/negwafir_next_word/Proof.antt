@@ -4,21 +4,21 @@ use Rattle.exports.specs.Cases.{found, nothing}
 use Rattle.exports.proofs.text.negwafir_next_word.Statement.{statement}
 use Rattle.exports.proofs.text.negwafir_next_word.Tie as tie
 
-next_word_requires : tie.Need-next-word-requires
-next_word_requires c κs = search rules
+next_word-requires : tie.Need-next_word-requires
+next_word-requires c κs = search rules
 
-enum_known_start : tie.Need-enum-known-start
-enum_known_start c = search rules
+enum_known-start : tie.Need-enum_known-start
+enum_known-start c = search rules
 
-enum_told : tie.Need-enum-told
-enum_told c = search rules
+enum_told-1 : tie.Need-enum_told-1
+enum_told-1 c = search rules
 
-returns : tie.Need-returns
-returns c = rw (← c.before.before.before.next_word.ensures, c.before.start.given.1) found
+returns-in-At : tie.Need-returns-in-At
+returns-in-At c = rw (← c.before.before.before.next_word.ensures, c.before.start-1.given.1) found
 
-returns_2 : tie.Need-returns-2
-returns_2 c = rw (← c.before.before.next_word.ensures, c.enum_told.given.1) nothing
+returns-in-Nothing : tie.Need-returns-in-Nothing
+returns-in-Nothing c = rw (← c.before.before.next_word.ensures, c.enum_told-1.given.1) nothing
 
 pub negwafir_next_word_spec : {M : Type 1} → statement M
 negwafir_next_word_spec =
-    tie.close (tie.spec next_word_requires enum_known_start enum_told returns returns_2)
+    tie.close (tie.spec next_word-requires enum_known-start enum_told-1 returns-in-At returns-in-Nothing)

@@ -7,30 +7,30 @@ use Rattle.exports.specs.Cases.Number32As.{whole, not_decimal, too_large}
 use Rattle.exports.proofs.text.negwafir_whole32.Statement.{statement}
 use Rattle.exports.proofs.text.negwafir_whole32.Tie as tie
 
-whole32_requires : tie.Need-whole32-requires
-whole32_requires c κs = search rules
+whole32-requires : tie.Need-whole32-requires
+whole32-requires c κs = search rules
 
-enum_known_value : tie.Need-enum-known-value
-enum_known_value c = search rules
+enum_known-value : tie.Need-enum_known-value
+enum_known-value c = search rules
 
-enum_told : tie.Need-enum-told
-enum_told c = search rules
+enum_told-1 : tie.Need-enum_told-1
+enum_told-1 c = search rules
 
-enum_told_2 : tie.Need-enum-told-2
-enum_told_2 c = search rules
+enum_told-in-TooLarge : tie.Need-enum_told-in-TooLarge
+enum_told-in-TooLarge c = search rules
 
-returns : tie.Need-returns
-returns c =
-    let fits : SFits w32 c.before.value.given.0.0 = search rules in
-    rw (to_z-of_z fits, ← c.before.before.before.whole32.ensures, c.before.value.given.1) whole
+returns-in-Is : tie.Need-returns-in-Is
+returns-in-Is c =
+    let fits : SFits w32 c.before.value-1.given.0.0 = search rules in
+    rw (to_z-of_z fits, ← c.before.before.before.whole32.ensures, c.before.value-1.given.1) whole
 
-returns_2 : tie.Need-returns-2
-returns_2 c = rw (← c.before.before.whole32.ensures, c.enum_told.given.1) not_decimal
+returns-in-NotDecimal : tie.Need-returns-in-NotDecimal
+returns-in-NotDecimal c = rw (← c.before.before.whole32.ensures, c.enum_told-1.given.1) not_decimal
 
-returns_3 : tie.Need-returns-3
-returns_3 c = rw (← c.before.before.whole32.ensures, c.enum-told2.given.1) too_large
+returns-in-TooLarge : tie.Need-returns-in-TooLarge
+returns-in-TooLarge c = rw (← c.before.before.whole32.ensures, c.enum_told-in-TooLarge-1.given.1) too_large
 
 pub negwafir_whole32_spec : {M : Type 1} → statement M
 negwafir_whole32_spec =
     tie.close
-    (tie.spec whole32_requires enum_known_value enum_told enum_told_2 returns returns_2 returns_3)
+    (tie.spec whole32-requires enum_known-value enum_told-1 enum_told-in-TooLarge returns-in-Is returns-in-NotDecimal returns-in-TooLarge)

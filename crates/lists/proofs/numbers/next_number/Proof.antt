@@ -13,73 +13,73 @@ use borrow.Author.Rules.{rules}
 use Rattle.lists.proofs.numbers.next_number.Statement.{statement}
 use Rattle.lists.proofs.numbers.next_number.Tie as tie
 
-next_word_requires : tie.Need-next-word-requires
-next_word_requires c κs = search rules
+next_word-requires : tie.Need-next_word-requires
+next_word-requires c κs = search rules
 
-enum_known_start : tie.Need-enum-known-start
-enum_known_start c = search rules
+enum_known-start : tie.Need-enum_known-start
+enum_known-start c = search rules
 
-enum_told : tie.Need-enum-told
-enum_told c = search rules
+enum_told-1 : tie.Need-enum_told-1
+enum_told-1 c = search rules
 
-returns : tie.Need-returns
-returns c = no_word_says (no_word _ _ (sym c.before.before.next_word.ensures ∙ c.enum_told.given.1))
+returns-in_default : tie.Need-returns-in_default
+returns-in_default c = no_word_says (no_word _ _ (sym c.before.before.next_word.ensures ∙ c.enum_told-1.given.1))
 
-part_requires : tie.Need-part-requires
-part_requires c κs = search rules
+part-requires : tie.Need-part-requires
+part-requires c κs = search rules
 
-whole32_requires : tie.Need-whole32-requires
-whole32_requires c κs = search rules
+whole32-requires : tie.Need-whole32-requires
+whole32-requires c κs = search rules
 
-enum_known_n : tie.Need-enum-known-n
-enum_known_n c = search rules
+enum_known-n : tie.Need-enum_known-n
+enum_known-n c = search rules
 
-enum_told_2 : tie.Need-enum-told-2
-enum_told_2 c = search rules
+enum_told-in-NotDecimal : tie.Need-enum_told-in-NotDecimal
+enum_told-in-NotDecimal c = search rules
 
-enum_told_3 : tie.Need-enum-told-3
-enum_told_3 c = search rules
+enum_told-in-TooLarge : tie.Need-enum_told-in-TooLarge
+enum_told-in-TooLarge c = search rules
 
 -- the word, and what it says
-word : (c : tie.After-known-told) → Found c.before.before.before.before.before.args.line.now c.before.before.before.before.before.args.from
-    c.before.start.given.0.0 c.before.start.given.0.1.0
-word c = a_word _ _ _ _ (sym c.before.before.before.next_word.ensures ∙ c.before.start.given.1)
+word : (c : tie.In-At) → Found c.before.before.before.before.before.args.line.now c.before.before.before.before.before.args.from
+    c.before.start-1.given.0.0 c.before.start-1.given.0.1.0
+word c = a_word _ _ _ _ (sym c.before.before.before.next_word.ensures ∙ c.before.start-1.given.1)
 
 said : (c : tie.After-whole32) → c.whole32.result
-    ≡ number32_of (part_of c.before.before.before.before.before.before.before.args.line.now c.before.before.before.start.given.0.0 c.before.before.before.start.given.0.1.0)
+    ≡ number32_of (part_of c.before.before.before.before.before.before.before.args.line.now c.before.before.before.start-1.given.0.0 c.before.before.before.start-1.given.0.1.0)
 said c = c.whole32.ensures ∙ ap number32_of c.before.part.ensures
 
-returns_2 : tie.Need-returns-2
-returns_2 c =
+returns-in-Is : tie.Need-returns-in-Is
+returns-in-Is c =
     let at = c.before.before.before in
     let s = at.before.before.before.before.before.before.before in
-    let fits : SFits w32 c.before.n.given.0.0 = search rules in
-    a_word_says (word at.before.before).first (sym c.before.n.given.1 ∙ said at)
-    ∙ sym (ap (λ (n : ℤ). numbers_next s.args.line.now (Is n at.before.before.before.start.given.0.1.0)) (to_z-of_z fits))
+    let fits : SFits w32 c.before.n-1.given.0.0 = search rules in
+    a_word_says (word at.before.before).first (sym c.before.n-1.given.1 ∙ said at)
+    ∙ sym (ap (λ (n : ℤ). numbers_next s.args.line.now (Is n at.before.before.before.start-1.given.0.1.0)) (to_z-of_z fits))
 
-returns_3 : tie.Need-returns-3
-returns_3 c =
+returns-in-NotDecimal : tie.Need-returns-in-NotDecimal
+returns-in-NotDecimal c =
     let at = c.before.before in
-    a_word_says (word at.before.before).first (sym c.enum-told2.given.1 ∙ said at)
+    a_word_says (word at.before.before).first (sym c.enum_told-in-NotDecimal-1.given.1 ∙ said at)
 
-returns_4 : tie.Need-returns-4
-returns_4 c =
+returns-in-TooLarge : tie.Need-returns-in-TooLarge
+returns-in-TooLarge c =
     let at = c.before.before in
-    a_word_says (word at.before.before).first (sym c.enum-told3.given.1 ∙ said at)
+    a_word_says (word at.before.before).first (sym c.enum_told-in-TooLarge-1.given.1 ∙ said at)
 
 pub next_number_spec : {M : Type 1} → statement M
 next_number_spec =
     tie.close
     (tie.spec
-    next_word_requires
-    enum_known_start
-    enum_told
-    returns
-    part_requires
-    whole32_requires
-    enum_known_n
-    enum_told_2
-    enum_told_3
-    returns_2
-    returns_3
-    returns_4)
+    next_word-requires
+    enum_known-start
+    enum_told-1
+    returns-in_default
+    part-requires
+    whole32-requires
+    enum_known-n
+    enum_told-in-NotDecimal
+    enum_told-in-TooLarge
+    returns-in-Is
+    returns-in-NotDecimal
+    returns-in-TooLarge)

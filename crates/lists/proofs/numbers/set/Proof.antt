@@ -16,87 +16,87 @@ use borrow.Author.Rules.{rules}
 use Rattle.lists.proofs.numbers.set.Statement.{statement}
 use Rattle.lists.proofs.numbers.set.Tie as tie
 
-abbrev invariant_loop : tie.invariant_loop
-invariant_loop list₀ line at₀ n₀ list at n = Placing list₀ (numbers_of (drop 1 (words_of line))) list n (numbers_of (words_of (drop at line)))
+abbrev invariant-loop-n : tie.invariant-loop-n
+invariant-loop-n list₀ line at₀ n₀ list at n = Placing list₀ (numbers_of (drop 1 (words_of line))) list n (numbers_of (words_of (drop at line)))
 
-abbrev decreases_loop : tie.decreases_loop
-decreases_loop list₀ line at₀ n₀ list at n = length list₀ - n
+abbrev decreases-loop-n : tie.decreases-loop-n
+decreases-loop-n list₀ line at₀ n₀ list at n = length list₀ - n
 
-behind_first_requires : tie.Need-behind-first-requires invariant_loop decreases_loop
-behind_first_requires c κs = search rules
+behind_first-at-requires : tie.Need-behind_first-at-requires invariant-loop-n decreases-loop-n
+behind_first-at-requires c κs = search rules
 
-loop_holds : tie.Need-loop-init invariant_loop decreases_loop
-loop_holds c =
+loop-n-init : tie.Need-loop-n-init invariant-loop-n decreases-loop-n
+loop-n-init c =
     let a = c.before.before.args in
     let numbers = numbers_of (drop 1 (words_of a.line.now)) in
-    subst (λ (ws : List (List ℕ)). Placing a.list.now numbers a.list.now 0 (numbers_of ws)) (sym c.behind-first.ensures) (none_placed a.list.now numbers)
+    subst (λ (ws : List (List ℕ)). Placing a.list.now numbers a.list.now 0 (numbers_of ws)) (sym c.behind_first-at.ensures) (none_placed a.list.now numbers)
 
-next_number_requires : tie.Need-next-number-requires invariant_loop decreases_loop
-next_number_requires c κs = search rules
+next_number-requires : tie.Need-next_number-requires invariant-loop-n decreases-loop-n
+next_number-requires c κs = search rules
 
-enum_known_number : tie.Need-enum-known-number invariant_loop decreases_loop
-enum_known_number c = search rules
+enum_known-number : tie.Need-enum_known-number invariant-loop-n decreases-loop-n
+enum_known-number c = search rules
 
-enum_told : tie.Need-enum-told invariant_loop decreases_loop
-enum_told c = search rules
+enum_told-1 : tie.Need-enum_told-1 invariant-loop-n decreases-loop-n
+enum_told-1 c = search rules
 
-same_length : tie.Need-same-length invariant_loop decreases_loop
-same_length c = c.before.before.before.before.loop.invariant.as_long
+shape_of-list-in_default : tie.Need-shape_of-list-in_default invariant-loop-n decreases-loop-n
+shape_of-list-in_default c = c.before.before.before.before.loop-n.invariant.as_long
 
-returns : tie.Need-returns invariant_loop decreases_loop
-returns c =
+returns-in_default : tie.Need-returns-in_default invariant-loop-n decreases-loop-n
+returns-in_default c =
     let next = c.before.before in
-    all_placed _ _ _ _ _ next.before.before.loop.invariant (next.next-number.ensures ∙ ap (numbers_next _) c.enum_told.given.1)
+    all_placed _ _ _ _ _ next.before.before.loop-n.invariant (next.next_number.ensures ∙ ap (numbers_next _) c.enum_told-1.given.1)
 
-mul_number : tie.Need-overflow-mul-number invariant_loop decreases_loop
-mul_number c = let p = c.before.before.before.before.before.loop.invariant in search rules
+offset_bounds-list-n : tie.Need-offset_bounds-list-n invariant-loop-n decreases-loop-n
+offset_bounds-list-n c = let p = c.before.before.before.before.before.loop-n.invariant in search rules
 
-slice_set_from_number : tie.Need-slice-set-from-number invariant_loop decreases_loop
-slice_set_from_number c = omega arith
+bounds-list-n : tie.Need-bounds-list-n invariant-loop-n decreases-loop-n
+bounds-list-n c = omega arith
 
-add_n : tie.Need-overflow-add-n invariant_loop decreases_loop
-add_n c = omega arith
+overflow_add-n : tie.Need-overflow_add-n invariant-loop-n decreases-loop-n
+overflow_add-n c = omega arith
 
-loop_less : tie.Need-loop-smaller invariant_loop decreases_loop
-loop_less c = let p = c.before.before.before.before.before.loop.invariant in omega arith
+loop-n-smaller : tie.Need-loop-n-smaller invariant-loop-n decreases-loop-n
+loop-n-smaller c = let p = c.before.before.before.before.before.loop-n.invariant in omega arith
 
-loop_again : tie.Need-loop-preserved invariant_loop decreases_loop
-loop_again c =
+loop-n-preserved : tie.Need-loop-n-preserved invariant-loop-n decreases-loop-n
+loop-n-preserved c =
     let at = c.before.before.before.before.before in
     let a = at.before.before.before.args in
-    let l = at.loop in
+    let l = at.loop-n in
     let numbers = numbers_of (drop 1 (words_of a.line.now)) in
-    let end = c.before.number.given.0.1.0 in
-    let n = c.before.number.given.0.0 in
+    let end = c.before.number-1.given.0.1.0 in
+    let n = c.before.number-1.given.0.0 in
     let fits : SFits w32 n = search rules in
-    let left = c.before.before.before.next-number.ensures ∙ ap (numbers_next a.line.now) c.before.number.given.1 in
+    let left = c.before.before.before.next_number.ensures ∙ ap (numbers_next a.line.now) c.before.number-1.given.1 in
     let next = subst (λ (ns : List ℤ). Placing a.list.now numbers l.list l.n ns) left l.invariant in
     subst⁻¹ (λ (z : ℤ). Placing a.list.now numbers (set l.list l.n z) (l.n + 1) (numbers_of (words_of (drop end a.line.now)))) (to_z-of_z fits)
     (one_placed _ _ _ _ _ _ next (omega arith))
 
-same_length_2 : tie.Need-same-length-2 invariant_loop decreases_loop
-same_length_2 c = c.before.loop.invariant.as_long
+shape_of-list : tie.Need-shape_of-list invariant-loop-n decreases-loop-n
+shape_of-list c = c.before.loop-n.invariant.as_long
 
-returns_2 : tie.Need-returns-2 invariant_loop decreases_loop
-returns_2 c = full _ _ _ _ _ c.before.loop.invariant c.loop-test.false
+returns : tie.Need-returns invariant-loop-n decreases-loop-n
+returns c = full _ _ _ _ _ c.before.loop-n.invariant c.loop-n-test.false
 
 pub set_spec : {M : Type 1} → statement M
 set_spec =
     tie.close
     (tie.spec
-    invariant_loop
-    decreases_loop
-    behind_first_requires
-    loop_holds
-    next_number_requires
-    enum_known_number
-    enum_told
-    same_length
-    returns
-    mul_number
-    slice_set_from_number
-    add_n
-    loop_less
-    loop_again
-    same_length_2
-    returns_2)
+    invariant-loop-n
+    decreases-loop-n
+    behind_first-at-requires
+    loop-n-init
+    next_number-requires
+    enum_known-number
+    enum_told-1
+    shape_of-list-in_default
+    returns-in_default
+    offset_bounds-list-n
+    bounds-list-n
+    overflow_add-n
+    loop-n-smaller
+    loop-n-preserved
+    shape_of-list
+    returns)

@@ -12,20 +12,17 @@ use borrow.Author.Rules.{rules}
 use Rattle.lists.proofs.row.append_entry.Statement.{statement}
 use Rattle.lists.proofs.row.append_entry.Tie as tie
 
-slice_aggregate_part : tie.Need-slice-aggregate-part
-slice_aggregate_part c = search rules
+part-requires : tie.Need-part-requires
+part-requires c κs = search rules
 
-part_requires : tie.Need-part-requires
-part_requires c κs = search rules
+append-n-requires : tie.Need-append-n-requires
+append-n-requires c κs = search rules
 
-append_requires : tie.Need-append-requires
-append_requires c κs = search rules
+append_whole32-requires : tie.Need-append_whole32-requires
+append_whole32-requires c κs = search rules
 
-append_whole32_requires : tie.Need-append-whole32-requires
-append_whole32_requires c κs = search rules
-
-same_length : tie.Need-same-length
-same_length c = search rules
+shape_of-into : tie.Need-shape_of-into
+shape_of-into c = search rules
 
 returns : tie.Need-returns
 returns c =
@@ -34,15 +31,15 @@ returns c =
     let s = spaced.before.before.before.before.before in
     subst (λ (l : List ℕ). Appended s.args.into.now s.args.held l r.new.0 r.result)
     (ap₂ (λ (space : List ℕ) (z : ℤ). space ++ text_of z) spaced.before.part.ensures (to_z-of_z s.ranges.number) ∙ entry_is s.args.i s.args.number)
-    (both spaced.append.ensures r.ensures)
+    (both spaced.append-n.ensures r.ensures)
 
 pub append_entry_spec : {M : Type 1} → statement M
 append_entry_spec =
     tie.close
     (tie.spec
     slice_aggregate_part
-    part_requires
-    append_requires
-    append_whole32_requires
-    same_length
+    part-requires
+    append-n-requires
+    append_whole32-requires
+    shape_of-into
     returns)

@@ -18,72 +18,72 @@ use borrow.Author.Rules.{rules}
 use Rattle.lists.proofs.row.append_row.Statement.{statement}
 use Rattle.lists.proofs.row.append_row.Tie as tie
 
-abbrev invariant_loop : tie.invariant_loop
-invariant_loop into₀ held list n₀ i₀ into n i = (length into ≡ length into₀) × (i ≤ length list) × Appended into₀ held (row_of (take i list)) into n
+abbrev invariant-loop-i : tie.invariant-loop-i
+invariant-loop-i into₀ held list n₀ i₀ into n i = (length into ≡ length into₀) × (i ≤ length list) × Appended into₀ held (row_of (take i list)) into n
 
-abbrev decreases_loop : tie.decreases_loop
-decreases_loop into₀ held list n₀ i₀ into n i = length list - i
+abbrev decreases-loop-i : tie.decreases-loop-i
+decreases-loop-i into₀ held list n₀ i₀ into n i = length list - i
 
-within_requires : tie.Need-within-requires invariant_loop decreases_loop
-within_requires c κs = search rules
+within-n-requires : tie.Need-within-n-requires invariant-loop-i decreases-loop-i
+within-n-requires c κs = search rules
 
-loop_holds : tie.Need-loop-init invariant_loop decreases_loop
+loop-i-init : tie.Need-loop-i-init invariant-loop-i decreases-loop-i
 unfolding spaced
-loop_holds c = (refl, omega arith, nothing_yet _ _ _ c.within.ensures)
+loop-i-init c = (refl, omega arith, nothing_yet _ _ _ c.within-n.ensures)
 
-mul_append_entry : tie.Need-overflow-mul-append-entry invariant_loop decreases_loop
-mul_append_entry c = search rules
+offset_bounds-list-i : tie.Need-offset_bounds-list-i invariant-loop-i decreases-loop-i
+offset_bounds-list-i c = search rules
 
-shared_slice_copy_out_append_entry : tie.Need-shared-slice-copy-out-append-entry invariant_loop decreases_loop
-shared_slice_copy_out_append_entry c = search rules
+bounds-list-i : tie.Need-bounds-list-i invariant-loop-i decreases-loop-i
+bounds-list-i c = search rules
 
-append_entry_requires : tie.Need-append-entry-requires invariant_loop decreases_loop
-append_entry_requires c κs = search rules
+append_entry-n-requires : tie.Need-append_entry-n-requires invariant-loop-i decreases-loop-i
+append_entry-n-requires c κs = search rules
 
-add_i : tie.Need-overflow-add-i invariant_loop decreases_loop
-add_i c = search rules
+overflow_add-i : tie.Need-overflow_add-i invariant-loop-i decreases-loop-i
+overflow_add-i c = search rules
 
-loop_less : tie.Need-loop-smaller invariant_loop decreases_loop
-loop_less c = search rules
+loop-i-smaller : tie.Need-loop-i-smaller invariant-loop-i decreases-loop-i
+loop-i-smaller c = search rules
 
-loop_again : tie.Need-loop-preserved invariant_loop decreases_loop
-loop_again c =
-    let r = c.before.before.append-entry in
+loop-i-preserved : tie.Need-loop-i-preserved invariant-loop-i decreases-loop-i
+loop-i-preserved c =
+    let r = c.before.before.append_entry-n in
     let at = c.before.before.before.before.before.before in
     let a = at.before.before.before.args in
-    let l = at.loop in
+    let l = at.loop-i in
     let list = a.list.now in
-    let fits : SFits w32 (get_or list l.i (pos 0)) = record { sfits = c.before.before.before.append-entry-arg2.given } in (
+    let fits : SFits w32 (get_or list l.i (pos 0)) = record { sfits = c.before.before.before.append_entry-arg-in-loop-i-1.given } in (
       search rules,
       omega arith,
       rw add-one
-          (subst (λ (text : List ℕ). Appended a.into.now a.held text r.new.0 r.result)
+          (subst (λ (text : List ℕ). Appended a.into-1.now a.held text r.new.0 r.result)
           (ap (λ (n : ℤ). row_of (take l.i list) ++ entry_of l.i n) (to_z-of_z fits) ∙ row_on list l.i (omega arith))
           (both l.invariant.2 r.ensures)),
     )
 
-same_length : tie.Need-same-length invariant_loop decreases_loop
-same_length c = c.before.loop.invariant.0
+shape_of-into : tie.Need-shape_of-into invariant-loop-i decreases-loop-i
+shape_of-into c = c.before.loop-i.invariant.0
 
-returns : tie.Need-returns invariant_loop decreases_loop
+returns : tie.Need-returns invariant-loop-i decreases-loop-i
 returns c =
-    let l = c.before.loop in
+    let l = c.before.loop-i in
     let a = c.before.before.before.before.args in
-    subst (λ (ns : List ℤ). Appended a.into.now a.held (row_of ns) l.into l.n) (take_all l.i a.list.now c.loop-test.false) l.invariant.2
+    subst (λ (ns : List ℤ). Appended a.into-1.now a.held (row_of ns) l.into-1 l.n) (take_all l.i a.list.now c.loop-i-test.false) l.invariant.2
 
 pub append_row_spec : {M : Type 1} → statement M
 append_row_spec =
     tie.close
     (tie.spec
-    invariant_loop
-    decreases_loop
-    within_requires
-    loop_holds
-    mul_append_entry
-    shared_slice_copy_out_append_entry
-    append_entry_requires
-    add_i
-    loop_less
-    loop_again
-    same_length
+    invariant-loop-i
+    decreases-loop-i
+    within-n-requires
+    loop-i-init
+    offset_bounds-list-i
+    bounds-list-i
+    append_entry-n-requires
+    overflow_add-i
+    loop-i-smaller
+    loop-i-preserved
+    shape_of-into
     returns)

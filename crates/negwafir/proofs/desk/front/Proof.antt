@@ -6,14 +6,14 @@ use lib.Seq.{length-take-le}
 use Rattle.negwafir.proofs.desk.front.Statement.{statement}
 use Rattle.negwafir.proofs.desk.front.Tie as tie
 
+returns-then-list-n : tie.Need-returns-then-list-n
+returns-then-list-n c = search rules
+
+slice_bounds-result-end : tie.Need-slice_bounds-result-end
+slice_bounds-result-end c = sym (length-take-le _ _ (omega arith))
+
 returns : tie.Need-returns
 returns c = search rules
 
-slice_aggregate_result : tie.Need-slice-aggregate-result
-slice_aggregate_result c = sym (length-take-le _ _ (omega arith))
-
-returns_2 : tie.Need-returns-2
-returns_2 c = search rules
-
 pub front_spec : {M : Type 1} → statement M
-front_spec = tie.close (tie.spec returns slice_aggregate_result returns_2)
+front_spec = tie.close (tie.spec returns-then-list-n slice_bounds-result-end returns)

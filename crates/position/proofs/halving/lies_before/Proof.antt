@@ -10,20 +10,20 @@ use Rattle.table.specs.Table.{entry}
 use Rattle.position.proofs.halving.lies_before.Statement.{statement}
 use Rattle.position.proofs.halving.lies_before.Tie as tie
 
-mul_result : tie.Need-overflow-mul-result
-mul_result c = search rules
+offset_bounds-knots-i : tie.Need-offset_bounds-knots-i
+offset_bounds-knots-i c = search rules
 
-shared_slice_copy_out_result : tie.Need-shared-slice-copy-out-result
-shared_slice_copy_out_result c = search rules
+bounds-knots-i : tie.Need-bounds-knots-i
+bounds-knots-i c = search rules
 
-abbrev given : tie.After-result → List Known
+abbrev given : tie.After-result-1 → List Known
 given c =
     let s = c.before in
-    held w32 s.args.position s.ranges.position ∷ held w32 (entry s.args.knots.now s.args.i) (record { sfits = c.result.given }) ∷ []
+    held w32 s.args.position s.ranges.position ∷ held w32 (entry s.args.knots.now s.args.i) (record { sfits = c.result-1.given }) ∷ []
 
 returns : tie.Need-returns
 returns c =
     decided_by _ (λ e. passed (given c) e (search tests depth 30 fits 9000) tt) (λ e l. clash_ℤ l (failed (given c) e (search tests depth 30 fits 9000) tt))
 
 pub lies_before_spec : {M : Type 1} → statement M
-lies_before_spec = tie.close (tie.spec mul_result shared_slice_copy_out_result returns)
+lies_before_spec = tie.close (tie.spec offset_bounds-knots-i bounds-knots-i returns)

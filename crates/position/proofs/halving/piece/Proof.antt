@@ -10,17 +10,17 @@ use Rattle.position.specs.Halving.{Among, among_all}
 use Rattle.position.proofs.halving.piece.Statement.{statement}
 use Rattle.position.proofs.halving.piece.Tie as tie
 
-sub_end : tie.Need-overflow-sub-end
-sub_end c = search rules
+overflow_sub-end : tie.Need-overflow_sub-end
+overflow_sub-end c = search rules
 
-among_requires : tie.Need-among-requires
-among_requires c κs =
+among-requires : tie.Need-among-requires
+among-requires c κs =
     let s = c.before in
-    subst (λ (x : ℤ). Among s.args.t1.now x 0 (length s.args.t1.now - 1)) (sym (to_z-of_z s.ranges.position)) (among_all s.requires.0 s.requires.1.1)
+    subst (λ (x : ℤ). Among s.args.t1.now x 0 (length s.args.t1.now - 1)) (sym (to_z-of_z s.ranges.position)) (among_all s.requires.in_bounds s.requires.within_knots)
 
 returns : tie.Need-returns
 returns c =
     let s = c.before.before in subst (λ (x : ℤ). Belongs s.args.t1.now x c.among.result) (to_z-of_z s.ranges.position) c.among.ensures
 
 pub piece_spec : {M : Type 1} → statement M
-piece_spec = tie.close (tie.spec sub_end among_requires returns)
+piece_spec = tie.close (tie.spec overflow_sub-end among-requires returns)

@@ -6,124 +6,124 @@ use Rattle.replies.specs.Forms.{says}
 use Rattle.replies.proofs.forms.parts_of_fault.Statement.{statement}
 use Rattle.replies.proofs.forms.parts_of_fault.Tie as tie
 
-enum_told : tie.Need-enum-told
-enum_told c = search rules
+enum_told-1 : tie.Need-enum_told-1
+enum_told-1 c = search rules
 
-with_naturals_requires : tie.Need-with-naturals-requires
-with_naturals_requires c κs = search rules
+with_naturals-requires : tie.Need-with_naturals-requires
+with_naturals-requires c κs = search rules
 
-enum_told_2 : tie.Need-enum-told-2
-enum_told_2 c = search rules
+enum_told-in-NoCommand : tie.Need-enum_told-in-NoCommand
+enum_told-in-NoCommand c = search rules
 
-with_naturals_requires_2 : tie.Need-with-naturals-requires-2
-with_naturals_requires_2 c κs = search rules
+with_naturals-requires-in-NoCommand : tie.Need-with_naturals-requires-in-NoCommand
+with_naturals-requires-in-NoCommand c κs = search rules
 
-enum_told_3 : tie.Need-enum-told-3
-enum_told_3 c = search rules
+enum_told-in-TooFew : tie.Need-enum_told-in-TooFew
+enum_told-in-TooFew c = search rules
 
-with_naturals_requires_3 : tie.Need-with-naturals-requires-3
-with_naturals_requires_3 c κs = search rules
+with_naturals-requires-in-TooFew : tie.Need-with_naturals-requires-in-TooFew
+with_naturals-requires-in-TooFew c κs = search rules
 
-enum_told_4 : tie.Need-enum-told-4
-enum_told_4 c = search rules
+enum_told-in-TooMany : tie.Need-enum_told-in-TooMany
+enum_told-in-TooMany c = search rules
 
-with_naturals_requires_4 : tie.Need-with-naturals-requires-4
-with_naturals_requires_4 c κs = search rules
+with_naturals-requires-in-TooMany : tie.Need-with_naturals-requires-in-TooMany
+with_naturals-requires-in-TooMany c κs = search rules
 
-enum_told_5 : tie.Need-enum-told-5
-enum_told_5 c = search rules
+enum_told-in-NoList : tie.Need-enum_told-in-NoList
+enum_told-in-NoList c = search rules
 
-with_naturals_requires_5 : tie.Need-with-naturals-requires-5
-with_naturals_requires_5 c κs = search rules
+with_naturals-requires-in-NoList : tie.Need-with_naturals-requires-in-NoList
+with_naturals-requires-in-NoList c κs = search rules
 
-enum_known_fault : tie.Need-enum-known-fault
-enum_known_fault c = search rules
+enum_known-fault : tie.Need-enum_known-fault
+enum_known-fault c = search rules
 
-with_naturals_requires_6 : tie.Need-with-naturals-requires-6
-with_naturals_requires_6 c κs = search rules
+with_naturals-requires-in-NotDecimal : tie.Need-with_naturals-requires-in-NotDecimal
+with_naturals-requires-in-NotDecimal c κs = search rules
 
-enum_known_fault_2 : tie.Need-enum-known-fault-2
-enum_known_fault_2 c = search rules
+enum_known-fault-in-Beyond32-1 : tie.Need-enum_known-fault-in-Beyond32-1
+enum_known-fault-in-Beyond32-1 c = search rules
 
-with_naturals_requires_7 : tie.Need-with-naturals-requires-7
-with_naturals_requires_7 c κs = search rules
+with_naturals-requires-in-Beyond32 : tie.Need-with_naturals-requires-in-Beyond32
+with_naturals-requires-in-Beyond32 c κs = search rules
 
-enum_known_fault_3 : tie.Need-enum-known-fault-3
-enum_known_fault_3 c = search rules
+enum_known-fault-in-Beyond64-1 : tie.Need-enum_known-fault-in-Beyond64-1
+enum_known-fault-in-Beyond64-1 c = search rules
 
-with_naturals_requires_8 : tie.Need-with-naturals-requires-8
-with_naturals_requires_8 c κs = search rules
+with_naturals-requires-in-Beyond64 : tie.Need-with_naturals-requires-in-Beyond64
+with_naturals-requires-in-Beyond64 c κs = search rules
 
-enum_known_fault_4 : tie.Need-enum-known-fault-4
-enum_known_fault_4 c = search rules
+enum_known-fault-in-BeyondUnsigned-1 : tie.Need-enum_known-fault-in-BeyondUnsigned-1
+enum_known-fault-in-BeyondUnsigned-1 c = search rules
 
-with_naturals_requires_9 : tie.Need-with-naturals-requires-9
-with_naturals_requires_9 c κs = search rules
+with_naturals-requires-in-BeyondUnsigned : tie.Need-with_naturals-requires-in-BeyondUnsigned
+with_naturals-requires-in-BeyondUnsigned c κs = search rules
 
-returns : tie.Need-returns
+returns-in-TooLong : tie.Need-returns-in-TooLong
 unfolding filled fault_line
-returns c = says (fault_line _) c.with-naturals.ensures c.before.enum_told.given.1 refl
+returns-in-TooLong c = says (fault_line _) c.with_naturals.ensures c.before.enum_told-1.given.1 refl
 
-returns_2 : tie.Need-returns-2
+returns-in-NoCommand : tie.Need-returns-in-NoCommand
 unfolding filled fault_line
-returns_2 c = says (fault_line _) c.with-naturals2.ensures c.before.enum-told2.given.1 refl
+returns-in-NoCommand c = says (fault_line _) c.with_naturals-in-NoCommand.ensures c.before.enum_told-in-NoCommand-1.given.1 refl
 
-returns_3 : tie.Need-returns-3
+returns-in-TooFew : tie.Need-returns-in-TooFew
 unfolding filled fault_line
-returns_3 c = says (fault_line _) c.with-naturals3.ensures c.before.enum-told3.given.1 refl
+returns-in-TooFew c = says (fault_line _) c.with_naturals-in-TooFew.ensures c.before.enum_told-in-TooFew-1.given.1 refl
 
-returns_4 : tie.Need-returns-4
+returns-in-TooMany : tie.Need-returns-in-TooMany
 unfolding filled fault_line
-returns_4 c = says (fault_line _) c.with-naturals4.ensures c.before.enum-told4.given.1 refl
+returns-in-TooMany c = says (fault_line _) c.with_naturals-in-TooMany.ensures c.before.enum_told-in-TooMany-1.given.1 refl
 
-returns_5 : tie.Need-returns-5
+returns-in-NoList : tie.Need-returns-in-NoList
 unfolding filled fault_line
-returns_5 c = says (fault_line _) c.with-naturals5.ensures c.before.enum-told5.given.1 refl
+returns-in-NoList c = says (fault_line _) c.with_naturals-in-NoList.ensures c.before.enum_told-in-NoList-1.given.1 refl
 
-returns_6 : tie.Need-returns-6
+returns-in-NotDecimal : tie.Need-returns-in-NotDecimal
 unfolding filled fault_line
-returns_6 c = says (fault_line _) c.with-naturals6.ensures c.before.before.fault.given.1 refl
+returns-in-NotDecimal c = says (fault_line _) c.with_naturals-in-NotDecimal.ensures c.before.before.fault-1.given.1 refl
 
-returns_7 : tie.Need-returns-7
+returns-in-Beyond32 : tie.Need-returns-in-Beyond32
 unfolding filled fault_line
-returns_7 c = says (fault_line _) c.with-naturals7.ensures c.before.before.fault2.given.1 refl
+returns-in-Beyond32 c = says (fault_line _) c.with_naturals-in-Beyond32.ensures c.before.before.fault-in-Beyond32-1.given.1 refl
 
-returns_8 : tie.Need-returns-8
+returns-in-Beyond64 : tie.Need-returns-in-Beyond64
 unfolding filled fault_line
-returns_8 c = says (fault_line _) c.with-naturals8.ensures c.before.before.fault3.given.1 refl
+returns-in-Beyond64 c = says (fault_line _) c.with_naturals-in-Beyond64.ensures c.before.before.fault-in-Beyond64-1.given.1 refl
 
-returns_9 : tie.Need-returns-9
+returns-in-BeyondUnsigned : tie.Need-returns-in-BeyondUnsigned
 unfolding filled fault_line
-returns_9 c = says (fault_line _) c.with-naturals9.ensures c.before.before.fault4.given.1 refl
+returns-in-BeyondUnsigned c = says (fault_line _) c.with_naturals-in-BeyondUnsigned.ensures c.before.before.fault-in-BeyondUnsigned-1.given.1 refl
 
 pub parts_of_fault_spec : {M : Type 1} → statement M
 parts_of_fault_spec =
     tie.close
     (tie.spec
-    enum_told
-    with_naturals_requires
-    enum_told_2
-    with_naturals_requires_2
-    enum_told_3
-    with_naturals_requires_3
-    enum_told_4
-    with_naturals_requires_4
-    enum_told_5
-    with_naturals_requires_5
-    enum_known_fault
-    with_naturals_requires_6
-    enum_known_fault_2
-    with_naturals_requires_7
-    enum_known_fault_3
-    with_naturals_requires_8
-    enum_known_fault_4
-    with_naturals_requires_9
-    returns
-    returns_2
-    returns_3
-    returns_4
-    returns_5
-    returns_6
-    returns_7
-    returns_8
-    returns_9)
+    enum_told-1
+    with_naturals-requires
+    enum_told-in-NoCommand
+    with_naturals-requires-in-NoCommand
+    enum_told-in-TooFew
+    with_naturals-requires-in-TooFew
+    enum_told-in-TooMany
+    with_naturals-requires-in-TooMany
+    enum_told-in-NoList
+    with_naturals-requires-in-NoList
+    enum_known-fault
+    with_naturals-requires-in-NotDecimal
+    enum_known-fault-in-Beyond32-1
+    with_naturals-requires-in-Beyond32
+    enum_known-fault-in-Beyond64-1
+    with_naturals-requires-in-Beyond64
+    enum_known-fault-in-BeyondUnsigned-1
+    with_naturals-requires-in-BeyondUnsigned
+    returns-in-TooLong
+    returns-in-NoCommand
+    returns-in-TooFew
+    returns-in-TooMany
+    returns-in-NoList
+    returns-in-NotDecimal
+    returns-in-Beyond32
+    returns-in-Beyond64
+    returns-in-BeyondUnsigned)

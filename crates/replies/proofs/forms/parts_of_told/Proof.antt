@@ -7,56 +7,56 @@ use Rattle.replies.specs.Forms.{numbers, says}
 use Rattle.replies.proofs.forms.parts_of_told.Statement.{statement}
 use Rattle.replies.proofs.forms.parts_of_told.Tie as tie
 
-enum_known_answer : tie.Need-enum-known-answer
-enum_known_answer c = search rules
+enum_known-answer : tie.Need-enum_known-answer
+enum_known-answer c = search rules
 
-float_requires : tie.Need-float-requires
-float_requires c κs = search rules
+float-requires : tie.Need-float-requires
+float-requires c κs = search rules
 
-with_number_requires : tie.Need-with-number-requires
-with_number_requires c κs = search rules
+with_number-requires : tie.Need-with_number-requires
+with_number-requires c κs = search rules
 
-enum_known_answer_2 : tie.Need-enum-known-answer-2
-enum_known_answer_2 c = search rules
+enum_known-answer-in-Move-1 : tie.Need-enum_known-answer-in-Move-1
+enum_known-answer-in-Move-1 c = search rules
 
-float_requires_2 : tie.Need-float-requires-2
-float_requires_2 c κs = search rules
+float-requires-in-Move : tie.Need-float-requires-in-Move
+float-requires-in-Move c κs = search rules
 
-float_requires_3 : tie.Need-float-requires-3
-float_requires_3 c κs = search rules
+float-requires-in-Move-2 : tie.Need-float-requires-in-Move-2
+float-requires-in-Move-2 c κs = search rules
 
-float_requires_4 : tie.Need-float-requires-4
-float_requires_4 c κs = search rules
+float-requires-in-Move-3 : tie.Need-float-requires-in-Move-3
+float-requires-in-Move-3 c κs = search rules
 
-with_numbers_requires : tie.Need-with-numbers-requires
-with_numbers_requires c κs = search rules
+with_numbers-requires : tie.Need-with_numbers-requires
+with_numbers-requires c κs = search rules
 
-returns : tie.Need-returns
+returns-in-Dwell : tie.Need-returns-in-Dwell
 unfolding filled
-returns c = says told_line (c.with_number.ensures ∙ ap (λ (level : Signed). numbers 18 level (natural_as 0) (natural_as 0)) c.before.float.ensures) c.before.before.before.answer.given.1 refl
+returns-in-Dwell c = says told_line (c.with_number.ensures ∙ ap (λ (level : Signed). numbers 18 level (natural_as 0) (natural_as 0)) c.before.float.ensures) c.before.before.before.answer-1.given.1 refl
 
-returns_2 : tie.Need-returns-2
+returns-in-Move : tie.Need-returns-in-Move
 unfolding filled
-returns_2 c =
+returns-in-Move c =
     let third = c.before in
     let second = third.before in
     let first = second.before in
     says told_line
-    (c.with-numbers.ensures ∙ ap (λ (left : Signed). numbers 19 left second.float3.result third.float4.result) first.float2.ensures ∙ ap₂ (numbers 19 _) second.float3.ensures third.float4.ensures)
-    first.before.before.answer2.given.1
+    (c.with_numbers.ensures ∙ ap (λ (left : Signed). numbers 19 left second.float-in-Move-2.result third.float-in-Move-3.result) first.float-in-Move.ensures ∙ ap₂ (numbers 19 _) second.float-in-Move-2.ensures third.float-in-Move-3.ensures)
+    first.before.before.answer-in-Move-1.given.1
     refl
 
 pub parts_of_told_spec : {M : Type 1} → statement M
 parts_of_told_spec =
     tie.close
     (tie.spec
-    enum_known_answer
-    float_requires
-    with_number_requires
-    enum_known_answer_2
-    float_requires_2
-    float_requires_3
-    float_requires_4
-    with_numbers_requires
-    returns
-    returns_2)
+    enum_known-answer
+    float-requires
+    with_number-requires
+    enum_known-answer-in-Move-1
+    float-requires-in-Move
+    float-requires-in-Move-2
+    float-requires-in-Move-3
+    with_numbers-requires
+    returns-in-Dwell
+    returns-in-Move)

@@ -6,72 +6,72 @@ use Rattle.replies.specs.Forms.{says}
 use Rattle.replies.proofs.forms.parts_of_verdict.Statement.{statement}
 use Rattle.replies.proofs.forms.parts_of_verdict.Tie as tie
 
-enum_told : tie.Need-enum-told
-enum_told c = search rules
+enum_told-1 : tie.Need-enum_told-1
+enum_told-1 c = search rules
 
-with_naturals_requires : tie.Need-with-naturals-requires
-with_naturals_requires c κs = search rules
+with_naturals-requires : tie.Need-with_naturals-requires
+with_naturals-requires c κs = search rules
 
-enum_told_2 : tie.Need-enum-told-2
-enum_told_2 c = search rules
+enum_told-in-Falling : tie.Need-enum_told-in-Falling
+enum_told-in-Falling c = search rules
 
-with_naturals_requires_2 : tie.Need-with-naturals-requires-2
-with_naturals_requires_2 c κs = search rules
+with_naturals-requires-in-Falling : tie.Need-with_naturals-requires-in-Falling
+with_naturals-requires-in-Falling c κs = search rules
 
-enum_told_3 : tie.Need-enum-told-3
-enum_told_3 c = search rules
+enum_told-in-Flat : tie.Need-enum_told-in-Flat
+enum_told-in-Flat c = search rules
 
-with_naturals_requires_3 : tie.Need-with-naturals-requires-3
-with_naturals_requires_3 c κs = search rules
+with_naturals-requires-in-Flat : tie.Need-with_naturals-requires-in-Flat
+with_naturals-requires-in-Flat c κs = search rules
 
-enum_told_4 : tie.Need-enum-told-4
-enum_told_4 c = search rules
+enum_told-in-Bends : tie.Need-enum_told-in-Bends
+enum_told-in-Bends c = search rules
 
-with_naturals_requires_4 : tie.Need-with-naturals-requires-4
-with_naturals_requires_4 c κs = search rules
+with_naturals-requires-in-Bends : tie.Need-with_naturals-requires-in-Bends
+with_naturals-requires-in-Bends c κs = search rules
 
-enum_known_verdict : tie.Need-enum-known-verdict
-enum_known_verdict c = search rules
+enum_known-verdict : tie.Need-enum_known-verdict
+enum_known-verdict c = search rules
 
-parts_of_refusal_requires : tie.Need-parts-of-refusal-requires
-parts_of_refusal_requires c κs = search rules
+parts_of_refusal-requires : tie.Need-parts_of_refusal-requires
+parts_of_refusal-requires c κs = search rules
 
-returns : tie.Need-returns
+returns-in-Rising : tie.Need-returns-in-Rising
 unfolding filled
-returns c = says verdict_line c.with-naturals.ensures c.before.enum_told.given.1 refl
+returns-in-Rising c = says verdict_line c.with_naturals.ensures c.before.enum_told-1.given.1 refl
 
-returns_2 : tie.Need-returns-2
+returns-in-Falling : tie.Need-returns-in-Falling
 unfolding filled
-returns_2 c = says verdict_line c.with-naturals2.ensures c.before.enum-told2.given.1 refl
+returns-in-Falling c = says verdict_line c.with_naturals-in-Falling.ensures c.before.enum_told-in-Falling-1.given.1 refl
 
-returns_3 : tie.Need-returns-3
+returns-in-Flat : tie.Need-returns-in-Flat
 unfolding filled
-returns_3 c = says verdict_line c.with-naturals3.ensures c.before.enum-told3.given.1 refl
+returns-in-Flat c = says verdict_line c.with_naturals-in-Flat.ensures c.before.enum_told-in-Flat-1.given.1 refl
 
-returns_4 : tie.Need-returns-4
+returns-in-Bends : tie.Need-returns-in-Bends
 unfolding filled
-returns_4 c = says verdict_line c.with-naturals4.ensures c.before.enum-told4.given.1 refl
+returns-in-Bends c = says verdict_line c.with_naturals-in-Bends.ensures c.before.enum_told-in-Bends-1.given.1 refl
 
-returns_5 : tie.Need-returns-5
+returns-in-Refused : tie.Need-returns-in-Refused
 unfolding filled
-returns_5 c = says verdict_line c.parts-of-refusal.ensures c.before.before.verdict.given.1 refl
+returns-in-Refused c = says verdict_line c.parts_of_refusal.ensures c.before.before.verdict-1.given.1 refl
 
 pub parts_of_verdict_spec : {M : Type 1} → statement M
 parts_of_verdict_spec =
     tie.close
     (tie.spec
-    enum_told
-    with_naturals_requires
-    enum_told_2
-    with_naturals_requires_2
-    enum_told_3
-    with_naturals_requires_3
-    enum_told_4
-    with_naturals_requires_4
-    enum_known_verdict
-    parts_of_refusal_requires
-    returns
-    returns_2
-    returns_3
-    returns_4
-    returns_5)
+    enum_told-1
+    with_naturals-requires
+    enum_told-in-Falling
+    with_naturals-requires-in-Falling
+    enum_told-in-Flat
+    with_naturals-requires-in-Flat
+    enum_told-in-Bends
+    with_naturals-requires-in-Bends
+    enum_known-verdict
+    parts_of_refusal-requires
+    returns-in-Rising
+    returns-in-Falling
+    returns-in-Flat
+    returns-in-Bends
+    returns-in-Refused)

@@ -7,29 +7,26 @@ use Rattle.replies.specs.Forms.{put_together}
 use Rattle.replies.proofs.writing.append_reply.Statement.{statement}
 use Rattle.replies.proofs.writing.append_reply.Tie as tie
 
-parts_of_requires : tie.Need-parts-of-requires
-parts_of_requires c κs = search rules
+parts_of-parts-requires : tie.Need-parts_of-parts-requires
+parts_of-parts-requires c κs = search rules
 
-entry_requires : tie.Need-entry-requires
-entry_requires c κs = search rules
+entry-requires : tie.Need-entry-requires
+entry-requires c κs = search rules
 
-entry_requires_2 : tie.Need-entry-requires-2
-entry_requires_2 c κs = search rules
+entry-requires-2 : tie.Need-entry-requires-2
+entry-requires-2 c κs = search rules
 
-fill_requires : tie.Need-fill-requires
-fill_requires c κs = search rules
+fill-n-requires : tie.Need-fill-n-requires
+fill-n-requires c κs = search rules
 
-slice_aggregate_part : tie.Need-slice-aggregate-part
-slice_aggregate_part c = search rules
+part-requires : tie.Need-part-requires
+part-requires c κs = search rules
 
-part_requires : tie.Need-part-requires
-part_requires c κs = search rules
+append-requires : tie.Need-append-requires
+append-requires c κs = search rules
 
-append_requires : tie.Need-append-requires
-append_requires c κs = search rules
-
-same_length : tie.Need-same-length
-same_length c = search rules
+shape_of-into : tie.Need-shape_of-into
+shape_of-into c = search rules
 
 returns : tie.Need-returns
 unfolding texts_of
@@ -41,20 +38,20 @@ returns c =
     let form = cause.before.before in
     let parts = form.before.before.before.before.before in
     let a = parts.before.before.args in
-    subst (λ (l : List ℕ). Appended a.into.now a.held l put.append.new.0 put.append.result)
-    (put_together _ _ parts.parts-of.ensures refl refl form.entry.ensures cause.entry2.ensures ending.part.ensures)
-    (both filling.fill.ensures put.append.ensures)
+    subst (λ (l : List ℕ). Appended a.into-1.now a.held l put.append.new.0 put.append.result)
+    (put_together _ _ parts.parts_of-parts.ensures refl refl form.entry.ensures cause.entry-2.ensures ending.part.ensures)
+    (both filling.fill-n.ensures put.append.ensures)
 
 pub append_reply_spec : {M : Type 1} → statement M
 append_reply_spec =
     tie.close
     (tie.spec
-    parts_of_requires
-    entry_requires
-    entry_requires_2
-    fill_requires
+    parts_of-parts-requires
+    entry-requires
+    entry-requires-2
+    fill-n-requires
     slice_aggregate_part
-    part_requires
-    append_requires
-    same_length
+    part-requires
+    append-requires
+    shape_of-into
     returns)

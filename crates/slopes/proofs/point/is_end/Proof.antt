@@ -8,21 +8,21 @@ use Rattle.slopes.specs.Cases.{AtEnd, at_the_first, at_the_last}
 use Rattle.slopes.proofs.point.is_end.Statement.{statement}
 use Rattle.slopes.proofs.point.is_end.Tie as tie
 
+returns-then-i-eq0 : tie.Need-returns-then-i-eq0
+returns-then-i-eq0 c = holds (at_the_first c.if-i-eq0.true)
+
+overflow_sub-n : tie.Need-overflow_sub-n
+overflow_sub-n c = search rules
+
+returns-then-n-i-lt2 : tie.Need-returns-then-n-i-lt2
+returns-then-n-i-lt2 c = holds (at_the_last (omega (arith, c.if-n-i-lt2.true, c.before.before.requires)))
+
 returns : tie.Need-returns
-returns c = holds (at_the_first c.if1.true)
-
-sub_if2 : tie.Need-overflow-sub-if2
-sub_if2 c = search rules
-
-returns_2 : tie.Need-returns-2
-returns_2 c = holds (at_the_last (omega (arith, c.if2.true, c.before.before.requires)))
-
-returns_3 : tie.Need-returns-3
-returns_3 c = fails (neither c.before.if1.false (omega (arith, c.if2.false)))
+returns c = fails (neither c.before.if-i-eq0.false (omega (arith, c.if-n-i-lt2.false)))
   where
     neither : {n i : ℕ} → (i ≡ 0 → ⊥) → i + 1 < n → AtEnd n i → ⊥
     neither f l (at_the_first z) = f z
     neither f l (at_the_last e) = omega arith
 
 pub is_end_spec : {M : Type 1} → statement M
-is_end_spec = tie.close (tie.spec returns sub_if2 returns_2 returns_3)
+is_end_spec = tie.close (tie.spec returns-then-i-eq0 overflow_sub-n returns-then-n-i-lt2 returns)

@@ -20,19 +20,19 @@ use Rattle.slopes.proofs.rule.mean.Tie as tie
 
 -- the product of the rises
 both_size : (s : tie.Start) → Within 1099511627776 s.args.both
-both_size s = subst (Within 1099511627776) (sym s.requires.1.1.1.is) (sized (known_rise s.args.z1 s.requires.1.0.within.rise ∷ known_rise s.args.z2 s.requires.1.1.0.within.rise ∷ []) (search code depth 30 fits 9000) tt)
+both_size s = subst (Within 1099511627776) (sym s.requires.product.is) (sized (known_rise s.args.z1 s.requires.up.within.rise ∷ known_rise s.args.z2 s.requires.up_2.within.rise ∷ []) (search code depth 30 fits 9000) tt)
 
 above_is : (s : tie.Start) → let a = s.args in (pos 3 *ℤ a.unit *ℤ (a.h1 +ℤ a.h2) *ℤ a.both) ≡ mean_above a.unit a.h1 a.z1 a.h2 a.z2
 above_is s =
     let a = s.args in
-    ap (λ (b : ℤ). pos 3 *ℤ a.unit *ℤ (a.h1 +ℤ a.h2) *ℤ b) s.requires.1.1.1.is
+    ap (λ (b : ℤ). pos 3 *ℤ a.unit *ℤ (a.h1 +ℤ a.h2) *ℤ b) s.requires.product.is
     ∙ ring (a.unit ∷ a.h1 ∷ a.z1 ∷ a.h2 ∷ a.z2 ∷ []) (search quote depth 30 fits 9000) tt
 
 abbrev given : tie.Start → List Known
 given s =
-    let left = s.requires.1.0 in
-    let right = s.requires.1.1.0 in
-    known_unit s.args.unit s.requires.0
+    let left = s.requires.up in
+    let right = s.requires.up_2 in
+    known_unit s.args.unit s.requires.unit_size
     ∷ known_width s.args.h1 left.within.width
     ∷ known_rise s.args.z1 left.within.rise
     ∷ known_width s.args.h2 right.within.width
@@ -42,57 +42,57 @@ given s =
 
 -- ---- the product above and the sum below
 
-mul_above : tie.Need-overflow-mul-above
-mul_above c = fits (given c) (search code depth 30 fits 9000) tt
+overflow_mul-above : tie.Need-overflow_mul-above
+overflow_mul-above c = fits (given c) (search code depth 30 fits 9000) tt
 
-add_above : tie.Need-overflow-add-above
-add_above c = fits (given c) (search code depth 30 fits 9000) tt
+overflow_add-above : tie.Need-overflow_add-above
+overflow_add-above c = fits (given c) (search code depth 30 fits 9000) tt
 
-mul_above_2 : tie.Need-overflow-mul-above-2
-mul_above_2 c = fits (given c) (search code depth 30 fits 9000) tt
+overflow_mul-above-2 : tie.Need-overflow_mul-above-2
+overflow_mul-above-2 c = fits (given c) (search code depth 30 fits 9000) tt
 
-mul_above_3 : tie.Need-overflow-mul-above-3
-mul_above_3 c = fits (given c) (search code depth 30 fits 9000) tt
+overflow_mul-above-3 : tie.Need-overflow_mul-above-3
+overflow_mul-above-3 c = fits (given c) (search code depth 30 fits 9000) tt
 
-mul_below : tie.Need-overflow-mul-below
-mul_below c = fits (given c) (search code depth 30 fits 9000) tt
+overflow_mul-below : tie.Need-overflow_mul-below
+overflow_mul-below c = fits (given c) (search code depth 30 fits 9000) tt
 
-add_below : tie.Need-overflow-add-below
-add_below c = fits (given c) (search code depth 30 fits 9000) tt
+overflow_add-below : tie.Need-overflow_add-below
+overflow_add-below c = fits (given c) (search code depth 30 fits 9000) tt
 
-mul_below_2 : tie.Need-overflow-mul-below-2
-mul_below_2 c = fits (given c) (search code depth 30 fits 9000) tt
+overflow_mul-below-2 : tie.Need-overflow_mul-below-2
+overflow_mul-below-2 c = fits (given c) (search code depth 30 fits 9000) tt
 
-mul_below_3 : tie.Need-overflow-mul-below-3
-mul_below_3 c = fits (given c) (search code depth 30 fits 9000) tt
+overflow_mul-below-3 : tie.Need-overflow_mul-below-3
+overflow_mul-below-3 c = fits (given c) (search code depth 30 fits 9000) tt
 
-mul_below_4 : tie.Need-overflow-mul-below-4
-mul_below_4 c = fits (given c) (search code depth 30 fits 9000) tt
+overflow_mul-below-4 : tie.Need-overflow_mul-below-4
+overflow_mul-below-4 c = fits (given c) (search code depth 30 fits 9000) tt
 
-add_below_2 : tie.Need-overflow-add-below-2
-add_below_2 c = fits (given c) (search code depth 30 fits 9000) tt
+overflow_add-below-2 : tie.Need-overflow_add-below-2
+overflow_add-below-2 c = fits (given c) (search code depth 30 fits 9000) tt
 
-mul_below_5 : tie.Need-overflow-mul-below-5
-mul_below_5 c = fits (given c) (search code depth 30 fits 9000) tt
+overflow_mul-below-5 : tie.Need-overflow_mul-below-5
+overflow_mul-below-5 c = fits (given c) (search code depth 30 fits 9000) tt
 
-mul_below_6 : tie.Need-overflow-mul-below-6
-mul_below_6 c = fits (given c) (search code depth 30 fits 9000) tt
+overflow_mul-below-6 : tie.Need-overflow_mul-below-6
+overflow_mul-below-6 c = fits (given c) (search code depth 30 fits 9000) tt
 
-add_below_3 : tie.Need-overflow-add-below-3
-add_below_3 c = fits (given c) (search code depth 30 fits 9000) tt
+overflow_add-below-3 : tie.Need-overflow_add-below-3
+overflow_add-below-3 c = fits (given c) (search code depth 30 fits 9000) tt
 
 -- ---- their quotient
 
 -- the sum below is above 0
 divisor : (s : tie.Start) → pos 1 ≤ℤ mean_below s.args.h1 s.args.z1 s.args.h2 s.args.z2
 divisor s =
-    let h₁ = 0<_width s.requires.1.0.within.width in
-    let z₁ = s.requires.1.0.up in
-    let h₂ = 0<_width s.requires.1.1.0.within.width in
-    let z₂ = s.requires.1.1.0.up in 0<→1≤ (search positives depth 9 fits 9000)
+    let h₁ = 0<_width s.requires.up.within.width in
+    let z₁ = s.requires.up.up in
+    let h₂ = 0<_width s.requires.up_2.within.width in
+    let z₂ = s.requires.up_2.up in 0<→1≤ (search positives depth 9 fits 9000)
 
-div_steepness : tie.Need-nonzero-div-steepness
-div_steepness c =
+nonzero_div-steepness : tie.Need-nonzero_div-steepness
+nonzero_div-steepness c =
     let Γ = given c in
     (not_zero Γ (search zeros depth 30 fits 9000) tt (divisor c), fits Γ (search code depth 30 fits 9000) tt)
 
@@ -103,11 +103,11 @@ quotient s = let a = s.args in quot_z (pos 3 *ℤ a.unit *ℤ (a.h1 +ℤ a.h2) *
 is_mean : (s : tie.Start) → let a = s.args in quotient s ≡ mean a.unit a.h1 a.z1 a.h2 a.z2
 is_mean s =
     let a = s.args in
-    let u = <ℤ→≤ℤ (0<_unit s.requires.0) in
-    let h₁ = <ℤ→≤ℤ (0<_width s.requires.1.0.within.width) in
-    let z₁ = <ℤ→≤ℤ s.requires.1.0.up in
-    let h₂ = <ℤ→≤ℤ (0<_width s.requires.1.1.0.within.width) in
-    let z₂ = <ℤ→≤ℤ s.requires.1.1.0.up in
+    let u = <ℤ→≤ℤ (0<_unit s.requires.unit_size) in
+    let h₁ = <ℤ→≤ℤ (0<_width s.requires.up.within.width) in
+    let z₁ = <ℤ→≤ℤ s.requires.up.up in
+    let h₂ = <ℤ→≤ℤ (0<_width s.requires.up_2.within.width) in
+    let z₂ = <ℤ→≤ℤ s.requires.up_2.up in
     ap (λ (n : ℤ). quot_z n (mean_below a.h1 a.z1 a.h2 a.z2)) (above_is s)
     ∙ quot_toward (mean_above a.unit a.h1 a.z1 a.h2 a.z2) (divisor s)
     ∙ toward_floor (mean_below a.h1 a.z1 a.h2 a.z2) (search signs depth 9 fits 9000)
@@ -115,33 +115,33 @@ is_mean s =
 -- it fits 32 bits
 small : (s : tie.Start) → let a = s.args in SFits w32 (mean a.unit a.h1 a.z1 a.h2 a.z2)
 small s =
-    fits (known _ 805306368 (mean_within s.requires.0 s.requires.1.0 s.requires.1.1.0) ∷ []) (listed first) tt
+    fits (known _ 805306368 (mean_within s.requires.unit_size s.requires.up s.requires.up_2) ∷ []) (listed first) tt
 
-cast_result : tie.Need-overflow-cast-result
-cast_result c =
+overflow_cast-result : tie.Need-overflow_cast-result
+overflow_cast-result c =
     subst (λ (v : ℤ). SFits w32 v) (sym (◌∙◌ {c = quotient c} (plain_is {Γ = given c} (search code depth 30 fits 9000) tt) refl ∙ is_mean c)) (small c)
 
 returns : tie.Need-returns
 returns c =
-    record { is = to_z-of_z (cast_result c) ∙ plain_is {Γ = given c} (search code depth 30 fits 9000) tt ∙ is_mean c }
+    record { is = to_z-of_z (overflow_cast-result c) ∙ plain_is {Γ = given c} (search code depth 30 fits 9000) tt ∙ is_mean c }
 
 pub mean_spec : {M : Type 1} → statement M
 mean_spec =
     tie.close
     (tie.spec
-    mul_above
-    add_above
-    mul_above_2
-    mul_above_3
-    mul_below
-    add_below
-    mul_below_2
-    mul_below_3
-    mul_below_4
-    add_below_2
-    mul_below_5
-    mul_below_6
-    add_below_3
-    div_steepness
-    cast_result
+    overflow_mul-above
+    overflow_add-above
+    overflow_mul-above-2
+    overflow_mul-above-3
+    overflow_mul-below
+    overflow_add-below
+    overflow_mul-below-2
+    overflow_mul-below-3
+    overflow_mul-below-4
+    overflow_add-below-2
+    overflow_mul-below-5
+    overflow_mul-below-6
+    overflow_add-below-3
+    nonzero_div-steepness
+    overflow_cast-result
     returns)

@@ -21,67 +21,67 @@ use Rattle.slopes.proofs.whole.build.Tie as tie
 
 -- ---- refused
 
-points_requires : tie.Need-points-requires
-points_requires c κs = search rules
+points-refusal-requires : tie.Need-points-refusal-requires
+points-refusal-requires c κs = search rules
 
-same_length : tie.Need-same-length
-same_length c = search rules
+shape_of-slopes-then-refusal-ne-DONE : tie.Need-shape_of-slopes-then-refusal-ne-DONE
+shape_of-slopes-then-refusal-ne-DONE c = search rules
 
-returns : tie.Need-returns
-returns c =
+returns-then-refusal-ne-DONE : tie.Need-returns-then-refusal-ne-DONE
+returns-then-refusal-ne-DONE c =
     let s = c.before.before.before.before.args in
     record {
-      refusal = c.before.before.points.ensures;
-      slopes = kept s.slopes.now (built_slopes (unit s.s) s.knots.now s.values.now) c.if1.true;
+      refusal = c.before.before.points-refusal.ensures;
+      slopes = kept s.slopes-1.now (built_slopes (unit s.s) s.knots.now s.values.now) c.if-refusal-ne-DONE.true;
     }
 
 -- ---- accepted: nothing is written before every cause has been asked
 
-accepted : (c : tie.Else1) → let s = c.before.before.before.before.args in PointsWithin s.knots.now s.values.now
-accepted c = accepted_points c.if1.false c.before.before.points.ensures
+accepted : (c : tie.Else-refusal-ne-DONE) → let s = c.before.before.before.before.args in PointsWithin s.knots.now s.values.now
+accepted c = accepted_points c.if-refusal-ne-DONE.false c.before.before.points-refusal.ensures
 
-as_many : (c : tie.Else1) → let s = c.before.before.before.before.args in length s.slopes.now ≡ length s.knots.now
-as_many c = (lengths_asked c.if1.false c.before.before.points.ensures).slopes
+as_many : (c : tie.Else-refusal-ne-DONE) → let s = c.before.before.before.before.args in length s.slopes-1.now ≡ length s.knots.now
+as_many c = (lengths_asked c.if-refusal-ne-DONE.false c.before.before.points-refusal.ensures).slopes-1
 
-abbrev start : tie.Else1 → tie.Start
+abbrev start : tie.Else-refusal-ne-DONE → tie.Start
 start c = c.before.before.before.before
 
-unit_requires : tie.Need-unit-requires
-unit_requires c κs = unit_asked c.if1.false c.before.before.points.ensures
+unit-unit-requires : tie.Need-unit-unit-requires
+unit-unit-requires c κs = unit_asked c.if-refusal-ne-DONE.false c.before.before.points-refusal.ensures
 
 -- the unit, as it is handed on, and the slope of each point in it
-handed : (c : tie.After-unit) → to_z w64 (of_z w64 c.unit.result) ≡ unit (start c.before).args.s
-handed c = returned w64 c.unit.type-inv c.unit.ensures.0
+handed : (c : tie.After-unit-unit) → to_z w64 (of_z w64 c.unit-unit.result) ≡ unit (start c.before).args.s
+handed c = returned w64 c.unit-unit.type_inv c.unit-unit.ensures.value
 
-sized : (c : tie.After-unit) → UnitSize (to_z w64 (of_z w64 c.unit.result))
-sized c = as_coded₁ (known_unit c.unit.result c.unit.ensures.1 ∷ []) UnitSize (search arguments depth 30 fits 9000) tt c.unit.ensures.1
+sized : (c : tie.After-unit-unit) → UnitSize (to_z w64 (of_z w64 c.unit-unit.result))
+sized c = as_coded₁ (known_unit c.unit-unit.result c.unit-unit.ensures.unit_size ∷ []) UnitSize (search arguments depth 30 fits 9000) tt c.unit-unit.ensures.unit_size
 
-abbrev built : tie.After-unit → ℕ → ℤ
-built c = let s = (start c.before).args in built_slope (to_z w64 (of_z w64 c.unit.result)) s.knots.now s.values.now
+abbrev built : tie.After-unit-unit → ℕ → ℤ
+built c = let s = (start c.before).args in built_slope (to_z w64 (of_z w64 c.unit-unit.result)) s.knots.now s.values.now
 
 -- where the first slope is written, and where those between are
-abbrev first : tie.After-renew → tie.After-unit
+abbrev first : tie.After-renew → tie.After-unit-unit
 first c = c.before.before
 
 abbrev run : tie.After-inner → tie.After-renew
 run c = c.before.before.before
 
-renew_requires : tie.Need-renew-requires
-renew_requires c κs =
+renew-requires : tie.Need-renew-requires
+renew-requires c κs =
     let u = c.before in
     let p = accepted u.before in
-    (sized u, (p, (as_many u.before, (omega arith, omega (arith, p.count.low)))))
+    record { unit_size = sized u; points_within = p; slopes_len = as_many u.before; from_le_to = omega arith; to_in_bounds = omega (arith, p.count.low) }
 
 begun : (c : tie.After-renew) → c.renew.new.1.1.1.0 ≡ put (built (first c)) 0 1 (start (first c).before).args.slopes.now
 begun c = c.renew.ensures
 
-inner_requires : tie.Need-inner-requires
-inner_requires c κs =
+inner-requires : tie.Need-inner-requires
+inner-requires c κs =
     let d = c.before.before in
     let u = first d in
-    (sized u, (accepted u.before, ap length (begun d) ∙ length_put (built u) 0 (start u.before).args.slopes.now 1 ∙ as_many u.before))
+    record { unit_size = sized u; points_within = accepted u.before; slopes_len = ap length (begun d) ∙ length_put (built u) 0 (start u.before).args.slopes.now 1 ∙ as_many u.before }
 
-between : (c : tie.After-inner) → let u = first (run c) in let s = (start u.before).args in c.inner.new.1.1.1.0 ≡ put (built u) 1 (length s.knots.now - 2) (put (built u) 0 1 s.slopes.now)
+between : (c : tie.After-inner) → let u = first (run c) in let s = (start u.before).args in c.inner.new.1.1.1.0 ≡ put (built u) 1 (length s.knots.now - 2) (put (built u) 0 1 s.slopes-1.now)
 between c =
     let u = first (run c) in
     c.inner.ensures ∙ ap (put (built u) 1 (length (start u.before).args.knots.now - 2)) (begun (run c))
@@ -91,61 +91,61 @@ full : (c : tie.After-inner) → length c.inner.new.1.1.1.0 ≡ length (start (f
 full c =
     let u = first (run c) in
     let s = (start u.before).args in
-    ap length (between c) ∙ length_put (built u) 1 (put (built u) 0 1 s.slopes.now) (length s.knots.now - 2) ∙ length_put (built u) 0 s.slopes.now 1
+    ap length (between c) ∙ length_put (built u) 1 (put (built u) 0 1 s.slopes-1.now) (length s.knots.now - 2) ∙ length_put (built u) 0 s.slopes-1.now 1
 
-sub_renew : tie.Need-overflow-sub-renew
-sub_renew c = omega (arith, (accepted (first (run c.before.before)).before).count.low)
+overflow_sub-n : tie.Need-overflow_sub-n
+overflow_sub-n c = omega (arith, (accepted (first (run c.before.before)).before).count.low)
 
-renew_requires_2 : tie.Need-renew-requires-2
-renew_requires_2 c κs =
+renew-requires-2 : tie.Need-renew-requires-2
+renew-requires-2 c κs =
     let u = first (run c.before.before) in
     let d = u.before in
-    (sized u, (accepted d, (full c.before.before ∙ as_many d, (omega (arith, (accepted d).count.low), omega arith))))
+    record { unit_size = sized u; points_within = accepted d; slopes_len = full c.before.before ∙ as_many d; from_le_to = omega (arith, (accepted d).count.low); to_in_bounds = omega arith }
 
 -- the last slope is in its place
-ended : (c : tie.After-renew2) → let u = first (run c.before.before.before) in let s = (start u.before).args in let n = length s.knots.now in
-    c.renew2.new.1.1.1.0 ≡ put (built u) (n - 1) (n - (n - 1)) (put (built u) 1 (n - 2) (put (built u) 0 1 s.slopes.now))
+ended : (c : tie.After-renew-2) → let u = first (run c.before.before.before) in let s = (start u.before).args in let n = length s.knots.now in
+    c.renew-2.new.1.1.1.0 ≡ put (built u) (n - 1) (n - (n - 1)) (put (built u) 1 (n - 2) (put (built u) 0 1 s.slopes-1.now))
 ended c =
     let d = c.before.before.before in
     let u = first (run d) in
     let n = length (start u.before).args.knots.now in
-    c.renew2.ensures ∙ ap (put (built u) (n - 1) (n - (n - 1))) (between d)
+    c.renew-2.ensures ∙ ap (put (built u) (n - 1) (n - (n - 1))) (between d)
 
-all_built : (c : tie.After-renew2) → let s = (start (first (run c.before.before.before)).before).args in c.renew2.new.1.1.1.0 ≡ built_slopes (unit s.s) s.knots.now s.values.now
+all_built : (c : tie.After-renew-2) → let s = (start (first (run c.before.before.before)).before).args in c.renew-2.new.1.1.1.0 ≡ built_slopes (unit s.s) s.knots.now s.values.now
 all_built c =
     let u = first (run c.before.before.before) in
     let d = u.before in
     let s = (start d).args in
     ended c
-    ∙ put_ends (built u) s.slopes.now (length s.knots.now) (accepted d).count.low (as_many d)
+    ∙ put_ends (built u) s.slopes-1.now (length s.knots.now) (accepted d).count.low (as_many d)
     ∙ ap (λ (U : ℤ). built_slopes U s.knots.now s.values.now) (handed u)
 
-same_length_2 : tie.Need-same-length-2
-same_length_2 c =
+shape_of-slopes : tie.Need-shape_of-slopes
+shape_of-slopes c =
     let d = (first (run c.before.before.before.before)).before in
     let s = (start d).args in
     ap length (all_built c.before) ∙ tab_length (length s.knots.now) (built_slope (unit s.s) s.knots.now s.values.now) ∙ sym (as_many d)
 
-returns_2 : tie.Need-returns-2
-returns_2 c =
+returns : tie.Need-returns
+returns c =
     let d = (first (run c.before.before.before.before)).before in
     let s = (start d).args in
     record {
-      refusal = d.before.before.points.ensures;
-      slopes = all_built c.before ∙ replaced s.slopes.now (built_slopes (unit s.s) s.knots.now s.values.now) d.if1.left;
+      refusal = d.before.before.points-refusal.ensures;
+      slopes = all_built c.before ∙ replaced s.slopes-1.now (built_slopes (unit s.s) s.knots.now s.values.now) d.if-refusal-ne-DONE.left;
     }
 
 pub build_spec : {M : Type 1} → statement M
 build_spec =
     tie.close
     (tie.spec
-    points_requires
-    same_length
-    returns
-    unit_requires
-    renew_requires
-    inner_requires
-    sub_renew
-    renew_requires_2
-    same_length_2
-    returns_2)
+    points-refusal-requires
+    shape_of-slopes-then-refusal-ne-DONE
+    returns-then-refusal-ne-DONE
+    unit-unit-requires
+    renew-requires
+    inner-requires
+    overflow_sub-n
+    renew-requires-2
+    shape_of-slopes
+    returns)

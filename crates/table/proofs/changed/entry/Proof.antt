@@ -14,26 +14,26 @@ use Rattle.table.proofs.changed.entry.Statement.{statement}
 use Rattle.table.proofs.changed.entry.Tie as tie
 
 abbrev given : tie.Start → List Known
-given s = held w32 s.args.new s.fits.new ∷ []
+given s = held w32 s.args.new s.ranges.new ∷ []
 
-cast_result : tie.Need-cast-result
-cast_result c = fits (given c.before) (search code depth 30 fits 9000) tt
+overflow_cast-result : tie.Need-overflow_cast-result
+overflow_cast-result c = fits (given c.before) (search code depth 30 fits 9000) tt
+
+returns-then-i-at : tie.Need-returns-then-i-at
+returns-then-i-at c =
+    let s = c.before in
+    let a = s.args in
+    let here = subst (λ (k : ℕ). a.new ≡ entry (set a.list.now k a.new) a.i) c.if-i-at.taken (sym (get_or-set_same a.list.now a.i a.new (pos 0) s.pre)) in
+    record { is = plain_is {Γ = given s} (search code depth 30 fits 9000) tt ∙ here; within = sized (given s) (search code depth 30 fits 9000) tt }
+
+entry-requires : tie.Need-entry-requires
+entry-requires c κs = search rules
 
 returns : tie.Need-returns
 returns c =
-    let s = c.before in
-    let a = s.args in
-    let here = subst (λ (k : ℕ). a.new ≡ entry (set a.list.now k a.new) a.i) c.if1.taken (sym (get_or-set_same a.list.now a.i a.new (pos 0) s.pre)) in
-    record { is = plain_is {Γ = given s} (search code depth 30 fits 9000) tt ∙ here; within = sized (given s) (search code depth 30 fits 9000) tt }
-
-entry_requires : tie.Need-entry-requires
-entry_requires c κs = search rules
-
-returns_2 : tie.Need-returns-2
-returns_2 c =
     let a = c.before.before.args in
-    let other = get_or-set_other a.list.now a.at a.i a.new (pos 0) c.before.if1.left in
+    let other = get_or-set_other a.list.now a.at a.i a.new (pos 0) c.before.if-i-at.left in
     as_read c.entry.ok (subst (λ (x : ℤ). Read x c.entry.result) (sym other) c.entry.ensures)
 
 pub entry_spec : {M : Type 1} → statement M
-entry_spec = tie.close (tie.spec cast_result returns entry_requires returns_2)
+entry_spec = tie.close (tie.spec overflow_cast-result returns-then-i-at entry-requires returns)

@@ -7,21 +7,21 @@ use Rattle.table.specs.Table.{entry}
 use Rattle.table.proofs.pieces.entry.Statement.{statement}
 use Rattle.table.proofs.pieces.entry.Tie as tie
 
-mul_result : tie.Need-overflow-mul-result
-mul_result c = search rules
+offset_bounds-list-i : tie.Need-offset_bounds-list-i
+offset_bounds-list-i c = search rules
 
-shared_slice_copy_out_result : tie.Need-shared-slice-copy-out-result
-shared_slice_copy_out_result c = search rules
+bounds-list-i : tie.Need-bounds-list-i
+bounds-list-i c = search rules
 
-abbrev given : tie.After-result → List Known
-given c = let a = c.before.args in held w32 (entry a.list.now a.i) (record { sfits = c.result.given }) ∷ []
+abbrev given : tie.After-result-1 → List Known
+given c = let a = c.before.args in held w32 (entry a.list.now a.i) (record { sfits = c.result-1.given }) ∷ []
 
-cast_result : tie.Need-overflow-cast-result
-cast_result c = fits (given c) (search code depth 30 fits 9000) tt
+overflow_cast-result : tie.Need-overflow_cast-result
+overflow_cast-result c = fits (given c) (search code depth 30 fits 9000) tt
 
 returns : tie.Need-returns
 returns c =
     record { is = plain_is {Γ = given c} (search code depth 30 fits 9000) tt; within = sized (given c) (search code depth 30 fits 9000) tt }
 
 pub entry_spec : {M : Type 1} → statement M
-entry_spec = tie.close (tie.spec mul_result shared_slice_copy_out_result cast_result returns)
+entry_spec = tie.close (tie.spec offset_bounds-list-i bounds-list-i overflow_cast-result returns)

@@ -16,65 +16,65 @@ use Rattle.table.specs.Pieces.{none_refused}
 use Rattle.table.proofs.refusals.changed_points.Statement.{statement}
 use Rattle.table.proofs.refusals.changed_points.Tie as tie
 
-outline_requires : tie.Need-outline-requires
-outline_requires c κs = search rules
+outline-outlined-requires : tie.Need-outline-outlined-requires
+outline-outlined-requires c κs = search rules
 
-returns : tie.Need-returns
-returns c = stopped (7 ∷ 3 ∷ 4 ∷ []) c.if1.true (as_outlined _ _ c.before.before.outline.ensures)
+returns-then-outlined-ne-DONE : tie.Need-returns-then-outlined-ne-DONE
+returns-then-outlined-ne-DONE c = stopped (7 ∷ 3 ∷ 4 ∷ []) c.if-outlined-ne-DONE.true (as_outlined _ _ c.before.before.outline-outlined.ensures)
 
 -- what the test says of the point
-not_there : (c : tie.Then2) → let s = c.before.before.before.before.before.args in length s.knots.now ≤ s.change.point
-not_there c = c.if2.true
+not_there : (c : tie.Then-knots-change) → let s = c.before.before.before.before.before.args in length s.knots.now ≤ s.change.point
+not_there c = c.if-knots-change.true
 
-is_there : (c : tie.Else2) → let s = c.before.before.before.before.before.args in s.change.point < length s.knots.now
-is_there c = c.if2.false
+is_there : (c : tie.Else-knots-change) → let s = c.before.before.before.before.before.args in s.change.point < length s.knots.now
+is_there c = c.if-knots-change.false
 
-returns_2 : tie.Need-returns-2
-returns_2 c =
+returns-then-knots-change : tie.Need-returns-then-knots-change
+returns-then-knots-change c =
     let d = c.before.before in
     let change = d.before.before.before.args.change in
     let t = table d.before.before.before.args.s d.before.before.before.args.knots.now d.before.before.before.args.values.now d.before.before.before.args.slopes.now in
-    went_on d.if1.false (as_outlined change t d.before.before.outline.ensures) (stopped (3 ∷ 4 ∷ []) {n = 7} (λ (e : 7 ≡ 0). omega arith) (refused_nowhere change t (not_there c)))
+    went_on d.if-outlined-ne-DONE.false (as_outlined change t d.before.before.outline-outlined.ensures) (stopped (3 ∷ 4 ∷ []) {n = 7} (λ (e : 7 ≡ 0). omega arith) (refused_nowhere change t (not_there c)))
 
-equally_long : (c : tie.Else1) → let s = c.before.before.before.args in SameLengths s.knots.now s.values.now s.slopes.now
-equally_long c = lengths_asked c.if1.false c.before.before.outline.ensures
+equally_long : (c : tie.Else-outlined-ne-DONE) → let s = c.before.before.before.args in SameLengths s.knots.now s.values.now s.slopes.now
+equally_long c = lengths_asked c.if-outlined-ne-DONE.false c.before.before.outline-outlined.ensures
 
-all_after_requires : tie.Need-all-after-requires
-all_after_requires c κs =
+all_after-requires : tie.Need-all_after-requires
+all_after-requires c κs =
     let e = c.before.before in
-    (record { lengths = (equally_long e).values; count = count_asked e.if1.false e.before.before.outline.ensures }, is_there c)
+    record { paired = record { lengths = (equally_long e).values; count = count_asked e.if-outlined-ne-DONE.false e.before.before.outline-outlined.ensures }; point_in_bounds = is_there c }
 
 -- what is answered of the points as they would be, where 12, 1, 2 and 7 have passed
-abbrev start : tie.Else2 → tie.Start
+abbrev start : tie.Else-knots-change → tie.Start
 start c = c.before.before.before.before.before
 
-abbrev given : tie.Else2 → Table
+abbrev given : tie.Else-knots-change → Table
 given c = let s = (start c).args in table s.s s.knots.now s.values.now s.slopes.now
 
-abbrev then : tie.Else2 → Table
+abbrev then : tie.Else-knots-change → Table
 then c = changed_by (start c).args.change (given c)
 
-answered : {n p : ℕ} (c : tie.Else2) → Given (Holds (then c)) (3 ∷ 4 ∷ []) n p → Given (HoldsAfter (start c).args.change (given c)) change_order n p
+answered : {n p : ℕ} (c : tie.Else-knots-change) → Given (Holds (then c)) (3 ∷ 4 ∷ []) n p → Given (HoldsAfter (start c).args.change (given c)) change_order n p
 answered c g =
-    let d = c.before.before in went_on d.if1.false (as_outlined _ _ d.before.before.outline.ensures) (went_on refl (taken_there _ _ (is_there c)) (as_stepped _ _ g))
+    let d = c.before.before in went_on d.if-outlined-ne-DONE.false (as_outlined _ _ d.before.before.outline-outlined.ensures) (went_on refl (taken_there _ _ (is_there c)) (as_stepped _ _ g))
 
-returns_3 : tie.Need-returns-3
-returns_3 c =
+returns-then-all_after : tie.Need-returns-then-all_after
+returns-then-all_after c =
     let e = c.before.before in
     let s = (start e).args in
-    answered e (none_refused (omega (arith, length-set s.knots.now s.change.point s.change.knot)) (told c.before.all_after.ensures c.if3.true))
+    answered e (none_refused (omega (arith, length-set s.knots.now s.change.point s.change.knot)) (told c.before.all_after.ensures c.if-all_after.true))
 
-first_requires : tie.Need-first-requires
-first_requires c κs =
+first-requires : tie.Need-first-requires
+first-requires c κs =
     let e = c.before.before in
     let o = e.before.before in
-    (unit_asked o.if1.false o.before.before.outline.ensures, (record { low = omega arith; high = omega arith }, (equally_long o, omega (arith, is_there e))))
+    record { unit_within = unit_asked o.if-outlined-ne-DONE.false o.before.before.outline-outlined.ensures; askable = record { low = omega arith; high = omega arith }; same_lengths = equally_long o; knots_nonzero = omega (arith, is_there e) }
 
 steps : (c : tie.After-first) → Given (Holds (then c.before.before.before)) (3 ∷ 4 ∷ []) c.first.result.number c.first.result.place
 steps c = c.first.ensures
 
-returns_4 : tie.Need-returns-4
-returns_4 c = answered c.before.before.before (steps c)
+returns : tie.Need-returns
+returns c = answered c.before.before.before (steps c)
 
 pub changed_points_spec : {M : Type 1} → statement M
-changed_points_spec = tie.close (tie.spec outline_requires returns returns_2 all_after_requires returns_3 first_requires returns_4)
+changed_points_spec = tie.close (tie.spec outline-outlined-requires returns-then-outlined-ne-DONE returns-then-knots-change all_after-requires returns-then-all_after first-requires returns)

@@ -9,40 +9,40 @@ use Rattle.table.specs.Accepted.{unit_passes, same_length_passes, count_passes}
 use Rattle.table.proofs.refusals.outline.Statement.{statement}
 use Rattle.table.proofs.refusals.outline.Tie as tie
 
-unit_within_requires : tie.Need-unit-within-requires
-unit_within_requires c κs = search rules
+unit_within-requires : tie.Need-unit_within-requires
+unit_within-requires c κs = search rules
+
+returns-then-not-unit_within : tie.Need-returns-then-not-unit_within
+returns-then-not-unit_within c =
+    refused (no_such_unit (denied c.before.unit_within.ensures (not-true _ c.if-not-unit_within.true))) (λ _ l _. absurd (omega (arith, l)))
+
+returns-then-values-knots : tie.Need-returns-then-values-knots
+returns-then-values-knots c =
+    let u = c.before in
+    passed (unit_passes (told u.before.unit_within.ensures (not-false _ u.if-not-unit_within.false))) (refused (lengths_differ (λ s. c.if-values-knots.true s.values)) (λ _ l _. absurd (omega (arith, l))))
+
+returns-then-slopes-knots : tie.Need-returns-then-slopes-knots
+returns-then-slopes-knots c =
+    let u = c.before.before in
+    passed (unit_passes (told u.before.unit_within.ensures (not-false _ u.if-not-unit_within.false))) (refused (lengths_differ (λ s. c.if-slopes-knots.true s.slopes)) (λ _ l _. absurd (omega (arith, l))))
+
+count_within-requires : tie.Need-count_within-requires
+count_within-requires c κs = search rules
+
+returns-then-not-count_within : tie.Need-returns-then-not-count_within
+returns-then-not-count_within c =
+    let l = c.before.before in
+    let u = l.before.before in
+    passed (unit_passes (told u.before.unit_within.ensures (not-false _ u.if-not-unit_within.false)))
+    (passed (same_length_passes (record { values = l.before.if-values-knots.false; slopes = l.if-slopes-knots.false }))
+    (refused (too_few_or_many (denied c.before.count_within.ensures (not-true _ c.if-not-count_within.true))) (λ _ l _. absurd (omega (arith, l)))))
 
 returns : tie.Need-returns
 returns c =
-    refused (no_such_unit (denied c.before.unit_within.ensures (not-true _ c.if1.true))) (λ _ l _. absurd (omega (arith, l)))
-
-returns_2 : tie.Need-returns-2
-returns_2 c =
-    let u = c.before in
-    passed (unit_passes (told u.before.unit_within.ensures (not-false _ u.if1.false))) (refused (lengths_differ (λ s. c.if2.true s.values)) (λ _ l _. absurd (omega (arith, l))))
-
-returns_3 : tie.Need-returns-3
-returns_3 c =
-    let u = c.before.before in
-    passed (unit_passes (told u.before.unit_within.ensures (not-false _ u.if1.false))) (refused (lengths_differ (λ s. c.if3.true s.slopes)) (λ _ l _. absurd (omega (arith, l))))
-
-count_within_requires : tie.Need-count-within-requires
-count_within_requires c κs = search rules
-
-returns_4 : tie.Need-returns-4
-returns_4 c =
     let l = c.before.before in
     let u = l.before.before in
-    passed (unit_passes (told u.before.unit_within.ensures (not-false _ u.if1.false)))
-    (passed (same_length_passes (record { values = l.before.if2.false; slopes = l.if3.false }))
-    (refused (too_few_or_many (denied c.before.count_within.ensures (not-true _ c.if4.true))) (λ _ l _. absurd (omega (arith, l)))))
-
-returns_5 : tie.Need-returns-5
-returns_5 c =
-    let l = c.before.before in
-    let u = l.before.before in
-    passed (unit_passes (told u.before.unit_within.ensures (not-false _ u.if1.false)))
-    (passed (same_length_passes (record { values = l.before.if2.false; slopes = l.if3.false })) (passed (count_passes (told c.before.count_within.ensures (not-false _ c.if4.false))) done))
+    passed (unit_passes (told u.before.unit_within.ensures (not-false _ u.if-not-unit_within.false)))
+    (passed (same_length_passes (record { values = l.before.if-values-knots.false; slopes = l.if-slopes-knots.false })) (passed (count_passes (told c.before.count_within.ensures (not-false _ c.if-not-count_within.false))) done))
 
 pub outline_spec : {M : Type 1} → statement M
-outline_spec = tie.close (tie.spec unit_within_requires returns returns_2 returns_3 count_within_requires returns_4 returns_5)
+outline_spec = tie.close (tie.spec unit_within-requires returns-then-not-unit_within returns-then-values-knots returns-then-slopes-knots count_within-requires returns-then-not-count_within returns)

@@ -13,69 +13,69 @@ use Rattle.table.specs.Search.{knots_of, values_of, Read, as_read, as_it_came, E
 use Rattle.table.proofs.search.end_at.Statement.{statement}
 use Rattle.table.proofs.search.end_at.Tie as tie
 
-slope_requires : tie.Need-slope-requires
-slope_requires c κs = search rules
+slope-slope-requires : tie.Need-slope-slope-requires
+slope-slope-requires c κs = search rules
 
-enum_told : tie.Need-enum-told
-enum_told c = search rules
+enum_told-1 : tie.Need-enum_told-1
+enum_told-1 c = search rules
 
-entry_requires : tie.Need-entry-requires
-entry_requires c κs = search rules
+entry-requires : tie.Need-entry-requires
+entry-requires c κs = search rules
 
-entry_requires_2 : tie.Need-entry-requires-2
-entry_requires_2 c κs = search rules
+entry-requires-in-Now : tie.Need-entry-requires-in-Now
+entry-requires-in-Now c κs = search rules
 
-enum_known_points : tie.Need-enum-known-points
-enum_known_points c = search rules
+enum_known-points : tie.Need-enum_known-points
+enum_known-points c = search rules
 
-entry_requires_3 : tie.Need-entry-requires-3
-entry_requires_3 c κs = search rules
+entry-requires-in-After : tie.Need-entry-requires-in-After
+entry-requires-in-After c κs = search rules
 
-entry_requires_4 : tie.Need-entry-requires-4
-entry_requires_4 c κs = search rules
+entry-requires-in-After-2 : tie.Need-entry-requires-in-After-2
+entry-requires-in-After-2 c κs = search rules
 
 -- point i, by what was read of the points p, which are those that were given
-module _ (c : tie.After-slope) where
+module _ (c : tie.After-slope-slope) where
   abbrev s : tie.Start
   s = c.before
 
   -- as the point of the points q
   abbrev As : (q : Points) (knot value : ℤ) → Type 0
   As q knot value =
-      EndAt (knots_of q s.args.knots.now) (values_of q s.args.values.now) s.args.slopes.now s.args.last s.args.i knot value (to_z w32 (of_z w32 c.slope.result))
+      EndAt (knots_of q s.args.knots.now) (values_of q s.args.values.now) s.args.slopes.now s.args.last s.args.i knot value (to_z w32 (of_z w32 c.slope-slope.result))
 
   is_end : (p : Points) {knot value : ℤ} → s.args.points ≡ p → Read (entry (knots_of p s.args.knots.now) s.args.i) knot → Read (entry (values_of p s.args.values.now) s.args.i) value
       → As s.args.points knot value
   is_end p {knot} {value} e k v =
       subst (λ (q : Points). As q knot value) (sym e)
-      (record { knot_read = k; value_read = v; slope_read = record { is = λ l. returned w32 c.slope.type-inv (c.slope.ensures.is l) } })
+      (record { knot_read = k; value_read = v; slope_read = record { is = λ l. returned w32 c.slope-slope.type_inv (c.slope-slope.ensures.is l) } })
 
-returns : tie.Need-returns
-returns c =
+returns-in-Now : tie.Need-returns-in-Now
+returns-in-Now c =
     let e = c.before.before in
-    is_end e.before.before Now e.enum_told.given.1 (as_read c.before.entry.type-inv c.before.entry.ensures) (as_read c.entry2.type-inv c.entry2.ensures)
+    is_end e.before.before Now e.enum_told-1.given.1 (as_read c.before.entry.type_inv c.before.entry.ensures) (as_read c.entry-in-Now.type_inv c.entry-in-Now.ensures)
 
-returns_2 : tie.Need-returns-2
-returns_2 c =
+returns-in-After : tie.Need-returns-in-After
+returns-in-After c =
     let k = c.before.before in
     let e = k.before.before.before in
     let p = e.before.before in
     let a = p.before.args in
-    let d = e.points.given.0.0 in
-    is_end p (After d) e.points.given.1
-    (as_read k.entry3.type-inv (subst (λ (l : List ℤ). Read (entry l a.i) k.entry3.result) (as_it_came a.knots.now d.point (record { sfits = k.before.struct_told.given.1.0.1 })) k.entry3.ensures))
-    (as_read c.entry4.type-inv (subst (λ (l : List ℤ). Read (entry l a.i) c.entry4.result) (as_it_came a.values.now d.point (record { sfits = c.before.struct-told2.given.1.1.0.1 })) c.entry4.ensures))
+    let d = e.points-1.given.0.0 in
+    is_end p (After d) e.points-1.given.1
+    (as_read k.entry-in-After.type_inv (subst (λ (l : List ℤ). Read (entry l a.i) k.entry-in-After.result) (as_it_came a.knots.now d.point (record { sfits = k.before.struct_told-1.given.1.0.1 })) k.entry-in-After.ensures))
+    (as_read c.entry-in-After-2.type_inv (subst (λ (l : List ℤ). Read (entry l a.i) c.entry-in-After-2.result) (as_it_came a.values.now d.point (record { sfits = c.before.struct_told-in-After-1.given.1.1.0.1 })) c.entry-in-After-2.ensures))
 
 pub end_at_spec : {M : Type 1} → statement M
 end_at_spec =
     tie.close
     (tie.spec
-    slope_requires
-    enum_told
-    entry_requires
-    entry_requires_2
-    enum_known_points
-    entry_requires_3
-    entry_requires_4
-    returns
-    returns_2)
+    slope-slope-requires
+    enum_told-1
+    entry-requires
+    entry-requires-in-Now
+    enum_known-points
+    entry-requires-in-After
+    entry-requires-in-After-2
+    returns-in-Now
+    returns-in-After)

@@ -22,11 +22,11 @@ abbrev given : tie.Start → List Known
 given s =
     let l = s.args.left in
     let r = s.args.right in
-    known_unit s.args.unit s.requires.0
-    ∷ known l.knot _ s.requires.1.0.0
-    ∷ known r.knot _ s.requires.1.0.1
-    ∷ known l.value _ s.requires.1.1.0
-    ∷ known r.value _ s.requires.1.1.1
+    known_unit s.args.unit s.requires.unit_size
+    ∷ known l.knot _ s.requires.within.0
+    ∷ known r.knot _ s.requires.within.1
+    ∷ known l.value _ s.requires.within_2.0
+    ∷ known r.value _ s.requires.within_2.1
     ∷ []
 
 -- ---- the width
@@ -34,100 +34,97 @@ given s =
 abbrev h : tie.Start → ℤ
 h s = s.args.right.knot -ℤ s.args.left.knot
 
-sub_h : tie.Need-overflow-sub-h
-sub_h c = fits (given c.before.before.before.before) (search code depth 30 fits 9000) tt
+overflow_sub-h : tie.Need-overflow_sub-h
+overflow_sub-h c = fits (given c.before.before.before.before) (search code depth 30 fits 9000) tt
 
-width_within_requires : tie.Need-width-within-requires
-width_within_requires c κs = search rules
+width_within-requires : tie.Need-width_within-requires
+width_within-requires c κs = search rules
 
-width : (c : tie.After-width-within) → Decided (WidthWithin (h c.before.before.before.before.before)) c.width_within.result
+width : (c : tie.After-width_within) → Decided (WidthWithin (h c.before.before.before.before.before)) c.width_within.result
 width c = asked WidthWithin (plain_is {Γ = given c.before.before.before.before.before} (search code depth 30 fits 9000) tt) c.width_within.ensures
 
-wide : (c : tie.Else1) → WidthWithin (h c.before.before.before.before.before.before)
-wide c = told (width c.before) (not-false _ c.if1.false)
+wide : (c : tie.Else-not-width_within) → WidthWithin (h c.before.before.before.before.before.before)
+wide c = told (width c.before) (not-false _ c.if-not-width_within.false)
 
-returns : tie.Need-returns
-returns c = in_width (denied (width c.before) (not-true _ c.if1.true))
+returns-then-not-width_within : tie.Need-returns-then-not-width_within
+returns-then-not-width_within c = in_width (denied (width c.before) (not-true _ c.if-not-width_within.true))
 
-returns_2 : tie.Need-returns-2
-returns_2 c =
+returns-then-last-lt-RISE : tie.Need-returns-then-last-lt-RISE
+returns-then-last-lt-RISE c =
     let last = c.before.before.before.before.before.before.before.args.last in
-    none (wide c.before) (λ (l : 4 ≤ last). absurd (omega (arith, l, c.if2.true))) (λ (l : 5 ≤ last). absurd (omega (arith, l, c.if2.true)))
+    none (wide c.before) (λ (l : 4 ≤ last). absurd (omega (arith, l, c.if-last-lt-RISE.true))) (λ (l : 5 ≤ last). absurd (omega (arith, l, c.if-last-lt-RISE.true)))
 
 -- ---- the rise
 
 -- where it is asked for
-abbrev start : tie.Else2 → tie.Start
+abbrev start : tie.Else-last-lt-RISE → tie.Start
 start c = c.before.before.before.before.before.before.before
 
 abbrev z : tie.Start → ℤ
 z s = s.args.right.value -ℤ s.args.left.value
 
-sub_z : tie.Need-overflow-sub-z
-sub_z c = fits (given (start c.before.before.before.before)) (search code depth 30 fits 9000) tt
+overflow_sub-z : tie.Need-overflow_sub-z
+overflow_sub-z c = fits (given (start c.before.before.before.before)) (search code depth 30 fits 9000) tt
 
-rise_within_requires : tie.Need-rise-within-requires
-rise_within_requires c κs = search rules
+rise_within-requires : tie.Need-rise_within-requires
+rise_within-requires c κs = search rules
 
-rise : (c : tie.After-rise-within) → Decided (RiseWithin (z (start c.before.before.before.before.before))) c.rise_within.result
+rise : (c : tie.After-rise_within) → Decided (RiseWithin (z (start c.before.before.before.before.before))) c.rise_within.result
 rise c = asked RiseWithin (plain_is {Γ = given (start c.before.before.before.before.before)} (search code depth 30 fits 9000) tt) c.rise_within.ensures
 
-risen : (c : tie.Else3) → RiseWithin (z (start c.before.before.before.before.before.before))
-risen c = told (rise c.before) (not-false _ c.if3.false)
+risen : (c : tie.Else-not-rise_within) → RiseWithin (z (start c.before.before.before.before.before.before))
+risen c = told (rise c.before) (not-false _ c.if-not-rise_within.false)
 
-returns_3 : tie.Need-returns-3
-returns_3 c =
+returns-then-not-rise_within : tie.Need-returns-then-not-rise_within
+returns-then-not-rise_within c =
     let e = c.before.before.before.before.before.before in
-    in_rise (omega (arith, e.if2.false)) (wide e.before) (denied (rise c.before) (not-true _ c.if3.true))
+    in_rise (omega (arith, e.if-last-lt-RISE.false)) (wide e.before) (denied (rise c.before) (not-true _ c.if-not-rise_within.true))
 
-returns_4 : tie.Need-returns-4
-returns_4 c =
+returns-then-last-lt-BEND : tie.Need-returns-then-last-lt-BEND
+returns-then-last-lt-BEND c =
     let e = c.before.before.before.before.before.before.before in
-    none (wide e.before) (λ _. risen c.before) (λ (l : 5 ≤ (start e).args.last). absurd (omega (arith, l, c.if4.true)))
+    none (wide e.before) (λ _. risen c.before) (λ (l : 5 ≤ (start e).args.last). absurd (omega (arith, l, c.if-last-lt-BEND.true)))
 
 -- ---- the cubic
 
 -- where it is asked for
-abbrev before_z : tie.Else4 → tie.Else2
+abbrev before_z : tie.Else-last-lt-BEND → tie.Else-last-lt-RISE
 before_z c = c.before.before.before.before.before.before.before
 
-is_monotone_requires : tie.Need-is-monotone-requires
-is_monotone_requires c κs =
+is_monotone-requires : tie.Need-is_monotone-requires
+is_monotone-requires c κs =
     let e = c.before.before in
-    let s = start (before_z e) in (
-      as_coded₁ (given s) UnitSize (search arguments depth 30 fits 9000) tt s.pre.0,
-      (told (before_z e).before.before.width_within.ensures (not-false _ (before_z e).before.if1.false), told e.before.before.rise_within.ensures (not-false _ e.before.if3.false)),
-    )
+    let s = start (before_z e) in record { unit_size = as_coded₁ (given s) UnitSize (search arguments depth 30 fits 9000) tt s.requires.unit_size; width_within = told (before_z e).before.before.width_within.ensures (not-false _ (before_z e).before.if-not-width_within.false); rise_within = told e.before.before.rise_within.ensures (not-false _ e.before.if-not-rise_within.false) }
 
-monotone : (c : tie.After-is-monotone) → let s = start (before_z c.before.before.before) in Decided (Monotone s.args.unit (h s) (z s) s.args.left.slope s.args.right.slope) c.is_monotone.result
+monotone : (c : tie.After-is_monotone) → let s = start (before_z c.before.before.before) in Decided (Monotone s.args.unit (h s) (z s) s.args.left.slope s.args.right.slope) c.is_monotone.result
 monotone c =
     let s = start (before_z c.before.before.before) in
-    let m = held w32 s.args.left.slope (record { sfits = c.before.before.struct-told5.given.1.1.0.1 }) in
-    let n = held w32 s.args.right.slope (record { sfits = c.before.struct-told6.given.1.1.0.1 }) in
+    let m = held w32 s.args.left.slope (record { sfits = c.before.before.struct_told-5-1.given.1.1.0.1 }) in
+    let n = held w32 s.args.right.slope (record { sfits = c.before.struct_told-6-1.given.1.1.0.1 }) in
     plainly₅ (m ∷ n ∷ given s) (λ (U h z m n : ℤ). Decided (Monotone U h z m n) c.is_monotone.result) c.is_monotone.ensures (search code depth 30 fits 9000) (search arguments depth 30 fits 9000) tt
 
-returns_5 : tie.Need-returns-5
-returns_5 c =
+returns-then-not-is_monotone : tie.Need-returns-then-not-is_monotone
+returns-then-not-is_monotone c =
     let e = c.before.before.before.before in
-    in_cubic (omega (arith, e.if4.false)) (wide (before_z e).before) (risen e.before) (denied (monotone c.before) (not-true _ c.if5.true))
+    in_cubic (omega (arith, e.if-last-lt-BEND.false)) (wide (before_z e).before) (risen e.before) (denied (monotone c.before) (not-true _ c.if-not-is_monotone.true))
 
-returns_6 : tie.Need-returns-6
-returns_6 c =
+returns : tie.Need-returns
+returns c =
     let e = c.before.before.before.before in
-    none (wide (before_z e).before) (λ _. risen e.before) (λ _. told (monotone c.before) (not-false _ c.if5.false))
+    none (wide (before_z e).before) (λ _. risen e.before) (λ _. told (monotone c.before) (not-false _ c.if-not-is_monotone.false))
 
 pub fault_spec : {M : Type 1} → statement M
 fault_spec =
     tie.close
     (tie.spec
-    sub_h
-    width_within_requires
-    returns
-    returns_2
-    sub_z
-    rise_within_requires
-    returns_3
-    returns_4
-    is_monotone_requires
-    returns_5
-    returns_6)
+    overflow_sub-h
+    width_within-requires
+    returns-then-not-width_within
+    returns-then-last-lt-RISE
+    overflow_sub-z
+    rise_within-requires
+    returns-then-not-rise_within
+    returns-then-last-lt-BEND
+    is_monotone-requires
+    returns-then-not-is_monotone
+    returns)

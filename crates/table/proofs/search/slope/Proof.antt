@@ -6,17 +6,17 @@ use borrow.Author.Rules.{rules}
 use Rattle.table.proofs.search.slope.Statement.{statement}
 use Rattle.table.proofs.search.slope.Tie as tie
 
+returns-then-last-lt-BEND : tie.Need-returns-then-last-lt-BEND
+returns-then-last-lt-BEND c = record { is = λ (l : 5 ≤ c.before.args.last). absurd (omega (arith, l, c.if-last-lt-BEND.true)) }
+
+offset_bounds-slopes-i : tie.Need-offset_bounds-slopes-i
+offset_bounds-slopes-i c = search rules
+
+bounds-slopes-i : tie.Need-bounds-slopes-i
+bounds-slopes-i c = search rules
+
 returns : tie.Need-returns
-returns c = record { is = λ (l : 5 ≤ c.before.args.last). absurd (omega (arith, l, c.if1.true)) }
-
-mul_result : tie.Need-overflow-mul-result
-mul_result c = search rules
-
-shared_slice_copy_out_result : tie.Need-shared-slice-copy-out-result
-shared_slice_copy_out_result c = search rules
-
-returns_2 : tie.Need-returns-2
-returns_2 c = record { is = λ _. to_z-of_z (record { sfits = c.result.given }) }
+returns c = record { is = λ _. to_z-of_z (record { sfits = c.result-1.given }) }
 
 pub slope_spec : {M : Type 1} → statement M
-slope_spec = tie.close (tie.spec returns mul_result shared_slice_copy_out_result returns_2)
+slope_spec = tie.close (tie.spec returns-then-last-lt-BEND offset_bounds-slopes-i bounds-slopes-i returns)

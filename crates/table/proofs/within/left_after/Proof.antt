@@ -8,31 +8,31 @@ use Rattle.table.specs.Pieces.{no_pieces, left_of_it}
 use Rattle.table.proofs.within.left_after.Statement.{statement}
 use Rattle.table.proofs.within.left_after.Tie as tie
 
-returns : tie.Need-returns
-returns c = holds (no_pieces (omega (arith, c.if1.true)))
+returns-then-k-eq0 : tie.Need-returns-then-k-eq0
+returns-then-k-eq0 c = holds (no_pieces (omega (arith, c.if-k-eq0.true)))
 
-sub_one_after : tie.Need-overflow-sub-one-after
-sub_one_after c = search rules
+overflow_sub-k : tie.Need-overflow_sub-k
+overflow_sub-k c = search rules
 
-one_after_requires : tie.Need-one-after-requires
-one_after_requires c κs = (c.before.requires.0, omega (arith, c.if1.false, c.before.requires.1))
+one_after-requires : tie.Need-one_after-requires
+one_after-requires c κs = record { paired = c.before.requires.paired; i_in_bounds = omega (arith, c.if-k-eq0.false, c.before.requires.point_in_bounds) }
 
-returns_2 : tie.Need-returns-2
-returns_2 c =
+returns-then-not-one_after : tie.Need-returns-then-not-one_after
+returns-then-not-one_after c =
     let o = c.before in
-    fails (λ p. denied o.one-after.ensures (not-true _ c.if2.true) (p.each _ (omega arith) (omega (arith, o.before.if1.false))))
+    fails (λ p. denied o.one_after.ensures (not-true _ c.if-not-one_after.true) (p.each _ (omega arith) (omega (arith, o.before.if-k-eq0.false))))
 
-sub_all : tie.Need-overflow-sub-all
-sub_all c = omega (arith, c.before.before.if1.false)
+overflow_sub-k-2 : tie.Need-overflow_sub-k-2
+overflow_sub-k-2 c = omega (arith, c.before.before.if-k-eq0.false)
 
-all_requires : tie.Need-all-requires
-all_requires c κs = let s = c.before.before.before in (s.requires.0, (omega arith, omega (arith, s.requires.1)))
+all-requires : tie.Need-all-requires
+all-requires c κs = let s = c.before.before.before in record { paired = s.requires.paired; from_le_end = (omega arith, omega (arith, s.requires.point_in_bounds)) }
 
-returns_3 : tie.Need-returns-3
-returns_3 c =
+returns : tie.Need-returns
+returns c =
     let e = c.before in
     let o = e.before in
-    left_of_it _ _ _ (omega (arith, o.before.if1.false)) (told o.one-after.ensures (not-false _ e.if2.false)) c.all.ensures
+    left_of_it _ _ _ (omega (arith, o.before.if-k-eq0.false)) (told o.one_after.ensures (not-false _ e.if-not-one_after.false)) c.all.ensures
 
 pub left_after_spec : {M : Type 1} → statement M
-left_after_spec = tie.close (tie.spec returns sub_one_after one_after_requires returns_2 sub_all all_requires returns_3)
+left_after_spec = tie.close (tie.spec returns-then-k-eq0 overflow_sub-k one_after-requires returns-then-not-one_after overflow_sub-k-2 all-requires returns)

@@ -8,32 +8,32 @@ use Rattle.table.specs.Pieces.{no_pieces, right_of_it}
 use Rattle.table.proofs.within.right_after.Statement.{statement}
 use Rattle.table.proofs.within.right_after.Tie as tie
 
-sub_if1 : tie.Need-overflow-sub-if1
-sub_if1 c = search rules
+overflow_sub-knots : tie.Need-overflow_sub-knots
+overflow_sub-knots c = search rules
+
+returns-then-knots-k-lt2 : tie.Need-returns-then-knots-k-lt2
+returns-then-knots-k-lt2 c = holds (no_pieces (omega (arith, c.if-knots-k-lt2.true)))
+
+one_after-requires : tie.Need-one_after-requires
+one_after-requires c κs = search rules
+
+returns-then-not-one_after : tie.Need-returns-then-not-one_after
+returns-then-not-one_after c =
+    let o = c.before in
+    fails (λ p. denied o.one_after.ensures (not-true _ c.if-not-one_after.true) (p.each _ (omega arith) (omega (arith, o.before.if-knots-k-lt2.false))))
+
+overflow_add-k : tie.Need-overflow_add-k
+overflow_add-k c = search rules
+
+overflow_sub-knots-2 : tie.Need-overflow_sub-knots-2
+overflow_sub-knots-2 c = search rules
+
+all-requires : tie.Need-all-requires
+all-requires c κs = search rules
 
 returns : tie.Need-returns
-returns c = holds (no_pieces (omega (arith, c.if1.true)))
-
-one_after_requires : tie.Need-one-after-requires
-one_after_requires c κs = search rules
-
-returns_2 : tie.Need-returns-2
-returns_2 c =
-    let o = c.before in
-    fails (λ p. denied o.one-after.ensures (not-true _ c.if2.true) (p.each _ (omega arith) (omega (arith, o.before.if1.false))))
-
-add_all : tie.Need-overflow-add-all
-add_all c = search rules
-
-sub_all : tie.Need-overflow-sub-all
-sub_all c = search rules
-
-all_requires : tie.Need-all-requires
-all_requires c κs = search rules
-
-returns_3 : tie.Need-returns-3
-returns_3 c =
-    let e = c.before in right_of_it _ _ _ (told e.before.one-after.ensures (not-false _ e.if2.false)) c.all.ensures
+returns c =
+    let e = c.before in right_of_it _ _ _ (told e.before.one_after.ensures (not-false _ e.if-not-one_after.false)) c.all.ensures
 
 pub right_after_spec : {M : Type 1} → statement M
-right_after_spec = tie.close (tie.spec sub_if1 returns one_after_requires returns_2 add_all sub_all all_requires returns_3)
+right_after_spec = tie.close (tie.spec overflow_sub-knots returns-then-knots-k-lt2 one_after-requires returns-then-not-one_after overflow_add-k overflow_sub-knots-2 all-requires returns)

@@ -4,11 +4,11 @@ use mathlib.Core.Path.{refl}
 use Rattle.words.proofs.split.is_separator.Statement.{statement}
 use Rattle.words.proofs.split.is_separator.Tie as tie
 
-returns : tie.Need-returns
-returns c = simp (eq-eqb _ _ c.if1.true)
+returns-then-b-eq32 : tie.Need-returns-then-b-eq32
+returns-then-b-eq32 c = simp (eq-eqb _ _ c.if-b-eq32.true)
 
-returns_2 : tie.Need-returns-2
-returns_2 c = simp (ne_eqb _ _ c.if1.false) refl
+returns : tie.Need-returns
+returns c = simp (ne_eqb _ _ c.if-b-eq32.false) refl
 
 pub is_separator_spec : {M : Type 1} → statement M
-is_separator_spec = tie.close (tie.spec returns returns_2)
+is_separator_spec = tie.close (tie.spec returns-then-b-eq32 returns)

@@ -15,19 +15,19 @@ use Rattle.words.proofs.split.next_word.Tie as tie
 found : (line : List ℕ) (from start end : ℕ) → start ≡ run_end (alike true) line from → start < length line → end ≡ run_end (alike false) line start → At start end ≡ next_word line from
 found line from start end e h f = rw (← e, lt-ltb _ _ h, ← f)
 
-run_requires : tie.Need-run-requires
-run_requires c κs = search rules
+run-start-requires : tie.Need-run-start-requires
+run-start-requires c κs = search rules
 
-run_requires_2 : tie.Need-run-requires-2
-run_requires_2 c κs = search rules
+run-requires : tie.Need-run-requires
+run-requires c κs = search rules
 
-returns : tie.Need-returns
-returns c =
-    found c.before.before.before.before.args.line.now c.before.before.before.before.args.from c.before.before.run.result c.run2.result
-    c.before.before.run.ensures c.before.if1.true c.run2.ensures
+returns-then-start-line : tie.Need-returns-then-start-line
+returns-then-start-line c =
+    found c.before.before.before.before.args.line.now c.before.before.before.before.args.from c.before.before.run-start.result c.run.result
+    c.before.before.run-start.ensures c.before.if-start-line.true c.run.ensures
 
-returns_2 : tie.Need-returns-2
-returns_2 c = rw (← c.before.run.ensures, le-ltb _ _ c.if1.false)
+returns-else-start-line : tie.Need-returns-else-start-line
+returns-else-start-line c = rw (← c.before.run-start.ensures, le-ltb _ _ c.if-start-line.false)
 
 pub next_word_spec : {M : Type 1} → statement M
-next_word_spec = tie.close (tie.spec run_requires run_requires_2 returns returns_2)
+next_word_spec = tie.close (tie.spec run-start-requires run-requires returns-then-start-line returns-else-start-line)

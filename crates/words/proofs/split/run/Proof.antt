@@ -11,58 +11,58 @@ use Rattle.words.specs.Runs.{run_out, run_stop, run_on}
 use Rattle.words.proofs.split.run.Statement.{statement}
 use Rattle.words.proofs.split.run.Tie as tie
 
-abbrev invariant_loop : tie.invariant_loop
-invariant_loop line from blank i₀ i = run_end (alike blank) line from ≡ run_end (alike blank) line i
+abbrev invariant-loop-i : tie.invariant-loop-i
+invariant-loop-i line from blank i₀ i = run_end (alike blank) line from ≡ run_end (alike blank) line i
 
-abbrev decreases_loop : tie.decreases_loop
-decreases_loop line from blank i₀ i = length line - i
+abbrev decreases-loop-i : tie.decreases-loop-i
+decreases-loop-i line from blank i₀ i = length line - i
 
 -- what the test of the byte at `i` said, said of the byte
-seen : (c : tie.After-is-separator invariant_loop decreases_loop) {b : Bool}
-    → beq c.is-separator.result c.before.before.before.before.before.args.blank ≡ b
+seen : (c : tie.After-is_separator invariant-loop-i decreases-loop-i) {b : Bool}
+    → beq c.is_separator.result c.before.before.before.before.before.args.blank ≡ b
     → alike c.before.before.before.before.before.args.blank
-    (get_or c.before.before.before.before.before.args.line.now c.before.before.before.loop.i 0) ≡ b
-seen c e = rw (← c.is-separator.ensures) e
+    (get_or c.before.before.before.before.before.args.line.now c.before.before.before.loop-i.i 0) ≡ b
+seen c e = rw (← c.is_separator.ensures) e
 
-loop_holds : tie.Need-loop-init invariant_loop decreases_loop
-loop_holds c = search rules
+loop-i-init : tie.Need-loop-i-init invariant-loop-i decreases-loop-i
+loop-i-init c = search rules
 
-shared_slice_read_is_separator : tie.Need-shared-slice-read-is-separator invariant_loop decreases_loop
-shared_slice_read_is_separator c = search rules
+bounds-line-i : tie.Need-bounds-line-i invariant-loop-i decreases-loop-i
+bounds-line-i c = search rules
 
-is_separator_requires : tie.Need-is-separator-requires invariant_loop decreases_loop
-is_separator_requires c κs = search rules
+is_separator-requires : tie.Need-is_separator-requires invariant-loop-i decreases-loop-i
+is_separator-requires c κs = search rules
 
-returns : tie.Need-returns invariant_loop decreases_loop
-returns c =
+returns-then-is_separator-blank : tie.Need-returns-then-is_separator-blank invariant-loop-i decreases-loop-i
+returns-then-is_separator-blank c =
     let at-loop = c.before.before.before.before in
-    sym (at-loop.loop.invariant ∙ run_stop _ _ _ c.before.before.before.loop-test.true (seen c.before (not-true _ c.if1.true)))
+    sym (at-loop.loop-i.invariant ∙ run_stop _ _ _ c.before.before.before.loop-i-test.true (seen c.before (not-true _ c.if-is_separator-blank.true)))
 
-add_i : tie.Need-overflow-add-i invariant_loop decreases_loop
-add_i c = search rules
+overflow_add-i : tie.Need-overflow_add-i invariant-loop-i decreases-loop-i
+overflow_add-i c = search rules
 
-loop_less : tie.Need-loop-smaller invariant_loop decreases_loop
-loop_less c = search rules
+loop-i-smaller : tie.Need-loop-i-smaller invariant-loop-i decreases-loop-i
+loop-i-smaller c = search rules
 
-loop_again : tie.Need-loop-preserved invariant_loop decreases_loop
-loop_again c =
+loop-i-preserved : tie.Need-loop-i-preserved invariant-loop-i decreases-loop-i
+loop-i-preserved c =
     let at-loop = c.before.before.before.before in
-    at-loop.loop.invariant ∙ run_on _ _ _ c.before.before.before.loop-test.true (seen c.before (not-false _ c.if1.false))
+    at-loop.loop-i.invariant ∙ run_on _ _ _ c.before.before.before.loop-i-test.true (seen c.before (not-false _ c.if-is_separator-blank.false))
 
-returns_2 : tie.Need-returns-2 invariant_loop decreases_loop
-returns_2 c = sym (c.before.loop.invariant ∙ run_out _ _ _ c.loop-test.false)
+returns : tie.Need-returns invariant-loop-i decreases-loop-i
+returns c = sym (c.before.loop-i.invariant ∙ run_out _ _ _ c.loop-i-test.false)
 
 pub run_spec : {M : Type 1} → statement M
 run_spec =
     tie.close
     (tie.spec
-    invariant_loop
-    decreases_loop
-    loop_holds
-    shared_slice_read_is_separator
-    is_separator_requires
-    returns
-    add_i
-    loop_less
-    loop_again
-    returns_2)
+    invariant-loop-i
+    decreases-loop-i
+    loop-i-init
+    bounds-line-i
+    is_separator-requires
+    returns-then-is_separator-blank
+    overflow_add-i
+    loop-i-smaller
+    loop-i-preserved
+    returns)

@@ -23,35 +23,35 @@ with_return line e = ap (λ (t : Bool). cond t (take (length line - 1) line) lin
 with_none : (line : List ℕ) → (get_or line (length line - 1) 0 ≡ 13 → ⊥) → line ≡ without_return line
 with_none line f = ap (λ (t : Bool). cond t (take (length line - 1) line) line) (sym (ne_eqb _ _ f))
 
-slice_aggregate_result : tie.Need-slice-aggregate-result
-slice_aggregate_result c = search rules
+slice_bounds-result-end : tie.Need-slice_bounds-result-end
+slice_bounds-result-end c = search rules
+
+returns-then-line-eq0 : tie.Need-returns-then-line-eq0
+returns-then-line-eq0 c = nothing c.before.before.args.line.now c.before.if-line-eq0.true
+
+overflow_sub-last : tie.Need-overflow_sub-last
+overflow_sub-last c = search rules
+
+bounds-line-last : tie.Need-bounds-line-last
+bounds-line-last c = search rules
+
+slice_bounds-result-end-then-line-last-eq13 : tie.Need-slice_bounds-result-end-then-line-last-eq13
+slice_bounds-result-end-then-line-last-eq13 c = sym (length-take-le _ _ (omega arith))
+
+returns-then-line-last-eq13 : tie.Need-returns-then-line-last-eq13
+returns-then-line-last-eq13 c = with_return c.before.before.before.before.args.line.now c.before.if-line-last-eq13.true
 
 returns : tie.Need-returns
-returns c = nothing c.before.before.args.line.now c.before.if1.true
-
-sub_last : tie.Need-overflow-sub-last
-sub_last c = search rules
-
-shared_slice_read_if2 : tie.Need-shared-slice-read-if2
-shared_slice_read_if2 c = search rules
-
-slice_aggregate_result_2 : tie.Need-slice-aggregate-result-2
-slice_aggregate_result_2 c = sym (length-take-le _ _ (omega arith))
-
-returns_2 : tie.Need-returns-2
-returns_2 c = with_return c.before.before.before.before.args.line.now c.before.if2.true
-
-returns_3 : tie.Need-returns-3
-returns_3 c = with_none c.before.before.before.args.line.now c.if2.false
+returns c = with_none c.before.before.before.args.line.now c.if-line-last-eq13.false
 
 pub content_spec : {M : Type 1} → statement M
 content_spec =
     tie.close
     (tie.spec
-    slice_aggregate_result
-    returns
-    sub_last
-    shared_slice_read_if2
-    slice_aggregate_result_2
-    returns_2
-    returns_3)
+    slice_bounds-result-end
+    returns-then-line-eq0
+    overflow_sub-last
+    bounds-line-last
+    slice_bounds-result-end-then-line-last-eq13
+    returns-then-line-last-eq13
+    returns)

@@ -8,62 +8,62 @@ use lib.Seq.{paste, paste-zero, paste-suc}
 use Rattle.words.proofs.stream.copy.Statement.{statement}
 use Rattle.words.proofs.stream.copy.Tie as tie
 
-abbrev invariant_loop : tie.invariant_loop
-invariant_loop into₀ at more n i₀ into i = (i ≤ n) × (into ≡ paste into₀ at more i) × (length into ≡ length into₀)
+abbrev invariant-loop-i : tie.invariant-loop-i
+invariant-loop-i into₀ at more n i₀ into i = (i ≤ n) × (into ≡ paste into₀ at more i) × (length into ≡ length into₀)
 
-abbrev decreases_loop : tie.decreases_loop
-decreases_loop into₀ at more n i₀ into i = n - i
+abbrev decreases-loop-i : tie.decreases-loop-i
+decreases-loop-i into₀ at more n i₀ into i = n - i
 
-loop_holds : tie.Need-loop-init invariant_loop decreases_loop
-loop_holds c = (omega arith, paste-zero c.args.into.now c.args.at c.args.more.now, refl)
+loop-i-init : tie.Need-loop-i-init invariant-loop-i decreases-loop-i
+loop-i-init c = (omega arith, paste-zero c.args.into.now c.args.at c.args.more.now, refl)
 
-shared_slice_read_into : tie.Need-shared-slice-read-into invariant_loop decreases_loop
-shared_slice_read_into c = omega arith
+bounds-more-i : tie.Need-bounds-more-i invariant-loop-i decreases-loop-i
+bounds-more-i c = omega arith
 
-add_into : tie.Need-overflow-add-into invariant_loop decreases_loop
-add_into c = omega arith
+overflow_add-into : tie.Need-overflow_add-into invariant-loop-i decreases-loop-i
+overflow_add-into c = omega arith
 
-slice_write_into : tie.Need-slice-write-into invariant_loop decreases_loop
-slice_write_into c = omega arith
+bounds-into-at : tie.Need-bounds-into-at invariant-loop-i decreases-loop-i
+bounds-into-at c = omega arith
 
-add_i : tie.Need-overflow-add-i invariant_loop decreases_loop
-add_i c = omega arith
+overflow_add-i : tie.Need-overflow_add-i invariant-loop-i decreases-loop-i
+overflow_add-i c = omega arith
 
-loop_less : tie.Need-loop-smaller invariant_loop decreases_loop
-loop_less c = omega arith
+loop-i-smaller : tie.Need-loop-i-smaller invariant-loop-i decreases-loop-i
+loop-i-smaller c = omega arith
 
-loop_again : tie.Need-loop-preserved invariant_loop decreases_loop
-loop_again c =
+loop-i-preserved : tie.Need-loop-i-preserved invariant-loop-i decreases-loop-i
+loop-i-preserved c =
     let here = c.before.before in
     let a = here.before.args in
-    let i = here.loop.i in
+    let i = here.loop-i.i in
     let stored = get_or a.more.now i 0 in (
       omega arith,
-      rw (here.loop.invariant.1, add-one) (paste-suc a.into.now a.at a.more.now i 0 (omega arith) (omega arith)),
-      length-set here.loop.into (a.at + i) stored ∙ here.loop.invariant.2,
+      rw (here.loop-i.invariant.1, add-one) (paste-suc a.into.now a.at a.more.now i 0 (omega arith) (omega arith)),
+      length-set here.loop-i.into (a.at + i) stored ∙ here.loop-i.invariant.2,
     )
 
-same_length : tie.Need-same-length invariant_loop decreases_loop
-same_length c = omega arith
+shape_of-into : tie.Need-shape_of-into invariant-loop-i decreases-loop-i
+shape_of-into c = omega arith
 
-returns : tie.Need-returns invariant_loop decreases_loop
+returns : tie.Need-returns invariant-loop-i decreases-loop-i
 returns c =
     let a = c.before.before.args in
-    let all : c.before.loop.i ≡ a.n = omega arith in
-    c.before.loop.invariant.1 ∙ ap (paste a.into.now a.at a.more.now) all
+    let all : c.before.loop-i.i ≡ a.n = omega arith in
+    c.before.loop-i.invariant.1 ∙ ap (paste a.into.now a.at a.more.now) all
 
 pub copy_spec : {M : Type 1} → statement M
 copy_spec =
     tie.close
     (tie.spec
-    invariant_loop
-    decreases_loop
-    loop_holds
-    shared_slice_read_into
-    add_into
-    slice_write_into
-    add_i
-    loop_less
-    loop_again
-    same_length
+    invariant-loop-i
+    decreases-loop-i
+    loop-i-init
+    bounds-more-i
+    overflow_add-into
+    bounds-into-at
+    overflow_add-i
+    loop-i-smaller
+    loop-i-preserved
+    shape_of-into
     returns)

@@ -10,47 +10,47 @@ use Rattle.words.specs.Runs.{run_out, run_stop, run_on}
 use Rattle.words.proofs.stream.find.Statement.{statement}
 use Rattle.words.proofs.stream.find.Tie as tie
 
-abbrev invariant_loop : tie.invariant_loop
-invariant_loop bytes from byte i₀ i = first_of byte bytes from ≡ first_of byte bytes i
+abbrev invariant-loop-i : tie.invariant-loop-i
+invariant-loop-i bytes from byte i₀ i = first_of byte bytes from ≡ first_of byte bytes i
 
-abbrev decreases_loop : tie.decreases_loop
-decreases_loop bytes from byte i₀ i = length bytes - i
+abbrev decreases-loop-i : tie.decreases-loop-i
+decreases-loop-i bytes from byte i₀ i = length bytes - i
 
-loop_holds : tie.Need-loop-init invariant_loop decreases_loop
-loop_holds c = refl
+loop-i-init : tie.Need-loop-i-init invariant-loop-i decreases-loop-i
+loop-i-init c = refl
 
-shared_slice_read_if1 : tie.Need-shared-slice-read-if1 invariant_loop decreases_loop
-shared_slice_read_if1 c = search rules
+bounds-bytes-i : tie.Need-bounds-bytes-i invariant-loop-i decreases-loop-i
+bounds-bytes-i c = search rules
 
-returns : tie.Need-returns invariant_loop decreases_loop
-returns c =
+returns-then-bytes-i : tie.Need-returns-then-bytes-i invariant-loop-i decreases-loop-i
+returns-then-bytes-i c =
     let here = c.before.before in
-    sym (here.before.loop.invariant ∙ run_stop _ _ _ here.loop-test.true (ap not (eq-eqb _ _ c.if1.true)))
+    sym (here.before.loop-i.invariant ∙ run_stop _ _ _ here.loop-i-test.true (ap not (eq-eqb _ _ c.if-bytes-i.true)))
 
-add_i : tie.Need-overflow-add-i invariant_loop decreases_loop
-add_i c = search rules
+overflow_add-i : tie.Need-overflow_add-i invariant-loop-i decreases-loop-i
+overflow_add-i c = search rules
 
-loop_less : tie.Need-loop-smaller invariant_loop decreases_loop
-loop_less c = search rules
+loop-i-smaller : tie.Need-loop-i-smaller invariant-loop-i decreases-loop-i
+loop-i-smaller c = search rules
 
-loop_again : tie.Need-loop-preserved invariant_loop decreases_loop
-loop_again c =
+loop-i-preserved : tie.Need-loop-i-preserved invariant-loop-i decreases-loop-i
+loop-i-preserved c =
     let here = c.before.before in
-    here.before.loop.invariant ∙ run_on _ _ _ here.loop-test.true (ap not (ne_eqb _ _ c.if1.false))
+    here.before.loop-i.invariant ∙ run_on _ _ _ here.loop-i-test.true (ap not (ne_eqb _ _ c.if-bytes-i.false))
 
-returns_2 : tie.Need-returns-2 invariant_loop decreases_loop
-returns_2 c = sym (c.before.loop.invariant ∙ run_out _ _ _ c.loop-test.false)
+returns : tie.Need-returns invariant-loop-i decreases-loop-i
+returns c = sym (c.before.loop-i.invariant ∙ run_out _ _ _ c.loop-i-test.false)
 
 pub find_spec : {M : Type 1} → statement M
 find_spec =
     tie.close
     (tie.spec
-    invariant_loop
-    decreases_loop
-    loop_holds
-    shared_slice_read_if1
-    returns
-    add_i
-    loop_less
-    loop_again
-    returns_2)
+    invariant-loop-i
+    decreases-loop-i
+    loop-i-init
+    bounds-bytes-i
+    returns-then-bytes-i
+    overflow_add-i
+    loop-i-smaller
+    loop-i-preserved
+    returns)
