@@ -6,7 +6,7 @@ use Rattle.calls.proofs.front.Statement.{statement}
 use Rattle.calls.proofs.front.Tie as tie
 
 slice_bounds-result-end : tie.Need-slice_bounds-result-end
-slice_bounds-result-end c = sym (length-take-le _ _ c.before.requires)
+slice_bounds-result-end c = sym (length-take-le _ _ c.requires)
 
 returns : tie.Need-returns
 returns c = search rules

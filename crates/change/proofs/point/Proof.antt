@@ -42,7 +42,7 @@ abbrev old : tie.Start → Table
 old s = table s.args.s s.args.knots.now s.args.values.now s.args.slopes.now
 
 abbrev start : tie.After-changed_points-refusal → tie.Start
-start c = c.before.before.before.before.before.before
+start c = c.before.before.before
 
 given : (c : tie.After-changed_points-refusal) → Given (HoldsAfter (start c).args.change (old (start c))) change_order c.changed_points-refusal.result.number c.changed_points-refusal.result.place
 given c = c.changed_points-refusal.ensures
@@ -82,14 +82,14 @@ bounds-values-k : tie.Need-bounds-values-k
 bounds-values-k c = omega (arith, there c, (lists c).values)
 
 -- the knots and the values that are written
-new_knots : (c : tie.After-struct_told-1) → let s = c.before.args in set s.knots.now s.change.point (to_z w32 (of_z w32 s.change.knot)) ≡ (changed_by s.change (old c.before)).knots
-new_knots c = let s = c.before.args in ap (set s.knots.now s.change.point) (to_z-of_z (record { sfits = c.struct_told-1.given.1.0.1 }))
+new_knots : (c : tie.After-struct_told-1) → let s = c.args in set s.knots.now s.change.point (to_z w32 (of_z w32 s.change.knot)) ≡ (changed_by s.change (old c.before)).knots
+new_knots c = let s = c.args in ap (set s.knots.now s.change.point) (to_z-of_z (record { sfits = c.struct_told-1.given.1.0.1 }))
 
-new_values : (c : tie.After-struct_told-1) → let s = c.before.args in set s.values.now s.change.point (to_z w32 (of_z w32 s.change.value)) ≡ (changed_by s.change (old c.before)).values
-new_values c = let s = c.before.args in ap (set s.values.now s.change.point) (to_z-of_z (record { sfits = c.struct_told-1.given.1.1.0.1 }))
+new_values : (c : tie.After-struct_told-1) → let s = c.args in set s.values.now s.change.point (to_z w32 (of_z w32 s.change.value)) ≡ (changed_by s.change (old c.before)).values
+new_values c = let s = c.args in ap (set s.values.now s.change.point) (to_z-of_z (record { sfits = c.struct_told-1.given.1.1.0.1 }))
 
 abbrev told : tie.Else-refusal-ne-DONE → tie.After-struct_told-1
-told c = c.before.before.before.before.before.before.before
+told c = c.before.before.before.before
 
 unit-requires : tie.Need-unit-requires
 unit-requires c κs = let d = c.before.before in unit_then_and_before (start d).args.change (old (start d)) c.if-refusal-ne-DONE.false (given d)
@@ -115,18 +115,18 @@ shape_of-values c = search rules
 shape_of-slopes : tie.Need-shape_of-slopes
 shape_of-slopes c = search rules
 
-new_slopes : (c : tie.After-slopes-1) → let s = start c.before.before.before.before.before.before.before.before in c.before.renew.new.1.1.1.0 ≡ renewed_slopes s.args.change (old s)
+new_slopes : (c : tie.After-slopes-1) → let s = start c.before.before.before.before.before.before in c.renew.new.1.1.1.0 ≡ renewed_slopes s.args.change (old s)
 new_slopes c =
-    let u = c.before.before.before.before.before in
+    let u = c.before.before.before in
     let e = u.before in
     let s = (start e.before.before).args in
-    c.before.renew.ensures
+    c.renew.ensures
     ∙ ap₂ (λ (ks vs : List ℤ). renewed s.change.point (built_slope (to_z w64 (of_z w64 u.unit.result)) ks vs) s.slopes-1.now) (new_knots (told e)) (new_values (told e))
     ∙ ap (λ (U : ℤ). renewed s.change.point (built_slope U (changed_by s.change (old (start e.before.before))).knots (changed_by s.change (old (start e.before.before))).values) s.slopes-1.now) (handed u)
 
 returns : tie.Need-returns
 returns c =
-    let e = c.before.before.before.before.before.before in
+    let e = c.before.before.before.before in
     let d = e.before.before in
     let change = (start d).args.change in
     let t = old (start d) in

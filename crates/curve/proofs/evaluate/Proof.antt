@@ -26,16 +26,16 @@ curve_of s = table s.args.s s.args.knots.now s.args.values.now s.args.slopes.now
 
 returns-then-refusal-ne-DONE : tie.Need-returns-then-refusal-ne-DONE
 returns-then-refusal-ne-DONE c =
-    record { refusal = table_refused c.before.before.check-refusal.ensures c.if-refusal-ne-DONE.true; value = refused_answer c.if-refusal-ne-DONE.true }
+    record { refusal = table_refused c.check-refusal.ensures c.if-refusal-ne-DONE.true; value = refused_answer c.if-refusal-ne-DONE.true }
 
 accepted : (c : tie.Else-refusal-ne-DONE) → Accepted (curve_of c.before.before.before)
-accepted c = accepted_table c.if-refusal-ne-DONE.false c.before.before.check-refusal.ensures
+accepted c = accepted_table c.if-refusal-ne-DONE.false c.check-refusal.ensures
 
 seek-requires : tie.Need-seek-requires
 seek-requires c κs = record { points_within = (accepted c).limits; slopes_len = (accepted c).slopes }
 
 -- where the position lies, said of the position itself
-sought : (c : tie.After-seek) → let a = c.before.before.before.before.args in SoughtIn a.knots.now a.values.now a.slopes.now c.before.before.before.before.args.position c.seek.result
+sought : (c : tie.After-seek) → let a = c.args in SoughtIn a.knots.now a.values.now a.slopes.now c.args.position c.seek.result
 sought c =
     let s = c.before.before.before.before in
     subst (λ (x : ℤ). SoughtIn s.args.knots.now s.args.values.now s.args.slopes.now x c.seek.result) (to_z-of_z s.ranges.position) c.seek.ensures
@@ -48,7 +48,7 @@ returns-in-Outside c =
     let k = c.before.before in
     let e = k.before in
     record {
-      refusal = position_refused e.before.before.check-refusal.ensures e.if-refusal-ne-DONE.false (sought_outside (subst (SoughtIn _ _ _ _) c.enum_told-1.given.1 (sought k)));
+      refusal = position_refused e.check-refusal.ensures e.if-refusal-ne-DONE.false (sought_outside (subst (SoughtIn _ _ _ _) c.enum_told-1.given.1 (sought k)));
       value = refused_answer (λ n. omega (arith, n));
     }
 
@@ -70,7 +70,7 @@ unit-requires : tie.Need-unit-requires
 unit-requires c κs = (accepted (here c.before)).unit
 
 -- the unit, as it is handed on
-handed : (c : tie.After-unit) → to_z w64 (of_z w64 c.unit.result) ≡ unit (here c.before.before).before.before.before.args.s
+handed : (c : tie.After-unit) → to_z w64 (of_z w64 c.unit.result) ≡ unit (here c.before.before).args.s
 handed c = returned w64 c.unit.type_inv c.unit.ensures.value
 
 value_on-value-requires : tie.Need-value_on-value-requires
@@ -87,7 +87,7 @@ returns-in-On c =
     let on = spot k in
     let at = k.spot-1.given.0.0 in
     record {
-      refusal = none_refused e.before.before.check-refusal.ensures e.if-refusal-ne-DONE.left on.0;
+      refusal = none_refused e.check-refusal.ensures e.if-refusal-ne-DONE.left on.0;
       value =
           right_answer e.if-refusal-ne-DONE.left
           (record {
@@ -95,7 +95,7 @@ returns-in-On c =
             belongs = on.1.belongs;
             is =
                 returned w32 c.value_on-value.type_inv
-                (of_spot (λ (left h z m n t : ℤ). c.value_on-value.result ≡ left +ℤ risen (unit e.before.before.before.args.s) h z m n t) on.1
+                (of_spot (λ (left h z m n t : ℤ). c.value_on-value.result ≡ left +ℤ risen (unit e.args.s) h z m n t) on.1
                 (c.value_on-value.ensures ∙ ap (λ (U : ℤ). at.left +ℤ risen U at.h at.z at.m at.n at.t) (handed u)));
           });
     }

@@ -17,13 +17,13 @@ use Rattle.curve.proofs.value_on.Statement.{statement}
 use Rattle.curve.proofs.value_on.Tie as tie
 
 -- what the types say of the unit and of a spot's numbers
-spot : (c : tie.After-struct_told-1) → let p = c.before.args.p in Held c.before.args.unit p.left p.h p.z p.m p.n p.t
-spot c = held_fields c.before.ranges.unit c.struct_told-1.given
+spot : (c : tie.After-struct_told-1) → let p = c.args.p in Held c.args.unit p.left p.h p.z p.m p.n p.t
+spot c = held_fields c.ranges.unit c.struct_told-1.given
 
 risen-risen-requires : tie.Need-risen-risen-requires
-risen-risen-requires c κs = let p = c.before.before.before.before in as_held InPiece (spot p) p.before.requires.in_piece
+risen-risen-requires c κs = let p = c.before.before.before.before in as_held InPiece (spot p) p.requires.in_piece
 
-has_risen : (c : tie.After-risen-risen) → let s = c.before.before.before.before.before.before.args in c.risen-risen.result ≡ risen s.unit s.p.h s.p.z s.p.m s.p.n s.p.t
+has_risen : (c : tie.After-risen-risen) → let s = c.args in c.risen-risen.result ≡ risen s.unit s.p.h s.p.z s.p.m s.p.n s.p.t
 has_risen c = of_held (λ (U h z m n t : ℤ). c.risen-risen.result ≡ risen U h z m n t) (spot c.before.before.before.before.before) c.risen-risen.ensures
 
 -- ---- the sum
@@ -31,9 +31,9 @@ has_risen c = of_held (λ (U h z m n t : ℤ). c.risen-risen.result ≡ risen U 
 abbrev summands : tie.After-risen-risen → List Known
 summands c =
     let p = c.before.before.before.before.before in
-    held w32 p.before.args.p.left (spot p).left_fits ∷ known c.risen-risen.result 1048576 (subst (Within 1048576) (sym (has_risen c)) (risen_within p.before.requires.in_piece)) ∷ []
+    held w32 p.args.p.left (spot p).left_fits ∷ known c.risen-risen.result 1048576 (subst (Within 1048576) (sym (has_risen c)) (risen_within p.requires.in_piece)) ∷ []
 
-value_fits_32 : (c : tie.After-risen-risen) → let s = c.before.before.before.before.before.before.args in SFits w32 (s.p.left +ℤ risen s.unit s.p.h s.p.z s.p.m s.p.n s.p.t)
+value_fits_32 : (c : tie.After-risen-risen) → let s = c.args in SFits w32 (s.p.left +ℤ risen s.unit s.p.h s.p.z s.p.m s.p.n s.p.t)
 value_fits_32 c =
     let p = c.before.before.before.before.before in
     let s = p.before in
@@ -44,10 +44,10 @@ value_fits_32 c =
 
 -- what the code's plain value is
 abbrev sum : tie.After-risen-risen → ℤ
-sum c = c.before.before.before.before.before.before.args.p.left +ℤ c.risen-risen.result
+sum c = c.args.p.left +ℤ c.risen-risen.result
 
-is_value : (c : tie.After-risen-risen) → let s = c.before.before.before.before.before.before.args in sum c ≡ s.p.left +ℤ risen s.unit s.p.h s.p.z s.p.m s.p.n s.p.t
-is_value c = ap (λ (w : ℤ). c.before.before.before.before.before.before.args.p.left +ℤ w) (has_risen c)
+is_value : (c : tie.After-risen-risen) → let s = c.args in sum c ≡ s.p.left +ℤ risen s.unit s.p.h s.p.z s.p.m s.p.n s.p.t
+is_value c = ap (λ (w : ℤ). c.args.p.left +ℤ w) (has_risen c)
 
 overflow_cast-result-2 : tie.Need-overflow_cast-result-2
 overflow_cast-result-2 c =

@@ -26,7 +26,7 @@ too_large-requires c κs =
     record { width_within = as_coded₁ (given s) WidthWithin (search arguments depth 30 fits 9000) tt s.requires.width; rise_within = as_coded₁ (given s) RiseWithin (search arguments depth 30 fits 9000) tt s.requires.rise }
 
 -- whether the piece is too large, said of the piece itself
-large : (c : tie.After-too_large) → let s = c.before.before.before.args.p in Decided (TooLarge s.h s.z) c.too_large.result
+large : (c : tie.After-too_large) → let s = c.args.p in Decided (TooLarge s.h s.z) c.too_large.result
 large c =
     plainly₂ (given c.before.before.before) (λ (h z : ℤ). Decided (TooLarge h z) c.too_large.result) c.too_large.ensures (search arguments depth 30 fits 9000) tt
 
@@ -36,7 +36,7 @@ refused-requires c κs = search rules
 returns-then-too_large : tie.Need-returns-then-too_large
 returns-then-too_large c =
     let t = c.before in
-    let a = t.before.before.before.before.args in
+    let a = t.args in
     let p = a.p in
     subst₂ (λ (r : Refusal) (t : Telling). AnsweredOn a.unit p.piece p.left p.h p.z p.m p.n p.t r.number r.place t) (sym c.refused.ensures.refusal_value) (sym c.refused.ensures.answer_value)
     (refused_there (told (large t.before) t.if-too_large.true))
@@ -51,7 +51,7 @@ returns : tie.Need-returns
 returns c =
     let s = c.before.before.before.before.before in
     let p = s.args.p in
-    told_there (denied (large c.before.before) c.before.if-too_large.false)
+    told_there (denied (large c.before.before) c.if-too_large.false)
     (subst (λ (U : ℤ). ToldIn U p.left p.h p.z p.m p.n p.t (told_of c.told-answer.result)) (to_z-of_z s.ranges.unit) c.told-answer.ensures)
 
 pub answer_on_spec : {M : Type 1} → statement M

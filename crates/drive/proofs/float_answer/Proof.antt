@@ -45,16 +45,16 @@ rests {t} {x} e f n g =
 returns-then-refusal-ne-DONE : tie.Need-returns-then-refusal-ne-DONE
 returns-then-refusal-ne-DONE c =
     let e = c.before in
-    rests c.refused.ensures.refusal_value c.refused.ensures.answer_value e.if-refusal-ne-DONE.true (table_refused e.before.before.check-refusal.ensures e.if-refusal-ne-DONE.true)
+    rests c.refused.ensures.refusal_value c.refused.ensures.answer_value e.if-refusal-ne-DONE.true (table_refused e.check-refusal.ensures e.if-refusal-ne-DONE.true)
 
 accepted : (c : tie.Else-refusal-ne-DONE) → Accepted (curve_of c.before.before.before)
-accepted c = accepted_table c.if-refusal-ne-DONE.false c.before.before.check-refusal.ensures
+accepted c = accepted_table c.if-refusal-ne-DONE.false c.check-refusal.ensures
 
 seek-requires : tie.Need-seek-requires
 seek-requires c κs = record { points_within = (accepted c).limits; slopes_len = (accepted c).slopes }
 
 -- where the position lies, said of the position itself
-sought : (c : tie.After-seek) → let a = c.before.before.before.before.args in SoughtIn a.knots.now a.values.now a.slopes.now c.before.before.before.before.args.position c.seek.result
+sought : (c : tie.After-seek) → let a = c.args in SoughtIn a.knots.now a.values.now a.slopes.now c.args.position c.seek.result
 sought c =
     let s = c.before.before.before.before in
     subst (λ (x : ℤ). SoughtIn s.args.knots.now s.args.values.now s.args.slopes.now x c.seek.result) (to_z-of_z s.ranges.position) c.seek.ensures
@@ -67,7 +67,7 @@ returns-in-Outside c =
     let k = c.before.before.before in
     let e = k.before in
     rests c.refused-in-Outside.ensures.refusal_value c.refused-in-Outside.ensures.answer_value (λ n. omega (arith, n))
-    (position_refused e.before.before.check-refusal.ensures e.if-refusal-ne-DONE.false (sought_outside (subst (SoughtIn _ _ _ _) c.before.enum_told-1.given.1 (sought k))))
+    (position_refused e.check-refusal.ensures e.if-refusal-ne-DONE.false (sought_outside (subst (SoughtIn _ _ _ _) c.enum_told-1.given.1 (sought k))))
 
 -- ---- answered in the position's piece
 
@@ -89,7 +89,7 @@ unit-requires : tie.Need-unit-requires
 unit-requires c κs = (accepted (here c.before)).unit
 
 -- the unit, as it is handed on
-handed : (c : tie.After-unit) → to_z w64 (of_z w64 c.unit.result) ≡ unit (here c.before.before).before.before.before.args.s
+handed : (c : tie.After-unit) → to_z w64 (of_z w64 c.unit.result) ≡ unit (here c.before.before).args.s
 handed c = returned w64 c.unit.type_inv c.unit.ensures.value
 
 answer_on-requires : tie.Need-answer_on-requires
@@ -106,8 +106,8 @@ returns-in-On c =
     let on = spot k in
     let at = k.spot-1.given.0.0 in
     let r = c.answer_on.result in
-    driving_on (accepted e) on.1.belongs e.if-refusal-ne-DONE.left (none_refused e.before.before.check-refusal.ensures e.if-refusal-ne-DONE.left on.0)
-    (of_spot (λ (left h z m n t : ℤ). AnsweredOn (unit e.before.before.before.args.s) at.piece left h z m n t r.refusal.number r.refusal.place (told_of r.answer)) on.1
+    driving_on (accepted e) on.1.belongs e.if-refusal-ne-DONE.left (none_refused e.check-refusal.ensures e.if-refusal-ne-DONE.left on.0)
+    (of_spot (λ (left h z m n t : ℤ). AnsweredOn (unit e.args.s) at.piece left h z m n t r.refusal.number r.refusal.place (told_of r.answer)) on.1
     (subst (λ (U : ℤ). AnsweredOn U at.piece at.left at.h at.z at.m at.n at.t r.refusal.number r.refusal.place (told_of r.answer)) (handed u) c.answer_on.ensures))
 
 pub float_answer_spec : {M : Type 1} → statement M

@@ -54,14 +54,14 @@ numerator-numerator-requires : tie.Need-numerator-numerator-requires
 numerator-numerator-requires c κs =
     let p = c.before.before.before in
     let r = p.coefficients-cubic.result in
-    as_coded₄ (with_cubic p) (λ (first second third t : ℤ). HornerWithin (2 ^ 53) first second third t (to_z w64 (of_z w64 p.before.args.h))) (search arguments depth 30 fits 9000) tt
-    (as_coded₁ (given p.before) (HornerWithin (2 ^ 53) r.first r.second r.third p.before.args.t) (search arguments depth 30 fits 9000) tt (steps p))
+    as_coded₄ (with_cubic p) (λ (first second third t : ℤ). HornerWithin (2 ^ 53) first second third t (to_z w64 (of_z w64 p.args.h))) (search arguments depth 30 fits 9000) tt
+    (as_coded₁ (given p.before) (HornerWithin (2 ^ 53) r.first r.second r.third p.args.t) (search arguments depth 30 fits 9000) tt (steps p))
 
 -- the numerator, said of the piece itself
-is_cubic : (c : tie.After-numerator-numerator) → let s = c.before.before.before.before.before.args in Exactly binary64 (numerator s.unit s.h s.z s.m s.n s.t) c.numerator-numerator.result
+is_cubic : (c : tie.After-numerator-numerator) → let s = c.args in Exactly binary64 (numerator s.unit s.h s.z s.m s.n s.t) c.numerator-numerator.result
 is_cubic c =
     let p = c.before.before.before.before in
-    subst (λ (v : ℤ). Exactly binary64 v c.numerator-numerator.result) (plain_is {Γ = with_cubic p} (search code depth 30 fits 9000) tt ∙ by_coefficients (are p) p.before.args.t) c.numerator-numerator.ensures
+    subst (λ (v : ℤ). Exactly binary64 v c.numerator-numerator.result) (plain_is {Γ = with_cubic p} (search code depth 30 fits 9000) tt ∙ by_coefficients (are p) p.args.t) c.numerator-numerator.ensures
 
 returns : tie.Need-returns
 returns c =

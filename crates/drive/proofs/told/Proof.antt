@@ -21,8 +21,8 @@ use Rattle.drive.proofs.told.Statement.{statement}
 use Rattle.drive.proofs.told.Tie as tie
 
 -- what the types and its place say of the unit and of a spot's numbers
-spot : (c : tie.After-struct_told-1) → let p = c.before.before.args.p in Held c.before.before.args.unit p.left p.h p.z p.m p.n p.t
-spot c = held_fields c.before.before.ranges.unit c.struct_told-1.given
+spot : (c : tie.After-struct_told-1) → let p = c.args.p in Held c.args.unit p.left p.h p.z p.m p.n p.t
+spot c = held_fields c.ranges.unit c.struct_told-1.given
 
 abbrev given : tie.After-struct_told-1 → List Known
 given c = let s = c.before.before in known_rise s.args.p.z s.requires.in_piece.rise ∷ held w32 s.args.p.left (spot c).left_fits ∷ []
@@ -31,7 +31,7 @@ returns-then-p-eq0 : tie.Need-returns-then-p-eq0
 returns-then-p-eq0 c =
     let p = c.before.before in
     let Γ = given p.before in
-    let left = p.before.before.before.args.p.left in
+    let left = p.args.p.left in
     dwells (zero_yes Γ p.if-p-eq0.true (search zeros depth 30 fits 9000) tt) (cast_is binary64 Γ {x = to_z w32 (of_z w32 left)} (search code depth 30 fits 9000) tt)
 
 returns : tie.Need-returns
@@ -51,7 +51,7 @@ int_to_float-level c = search rules
 moving-requires : tie.Need-moving-requires
 moving-requires c κs =
     let p = c.before.before.before.before.before.before.before in
-    let pre = p.before.before.requires in
+    let pre = p.requires in
     record { in_piece = as_held InPiece (spot p) pre.0; fact = as_held (λ (U h z m n t : ℤ). TooLarge h z → ⊥) (spot p) pre.1 }
 
 pub told_spec : {M : Type 1} → statement M

@@ -16,7 +16,7 @@ use Rattle.integers.proofs.floor_div.Tie as tie
 abbrev given : tie.Start → List Known
 given s = held w64 s.args.d s.ranges.d ∷ []
 
-positive : (c : tie.Else-d-lt1) → pos 1 ≤ℤ c.before.args.d
+positive : (c : tie.Else-d-lt1) → pos 1 ≤ℤ c.args.d
 positive c = failed (given c.before) c.if-d-lt1.false (search tests depth 30 fits 9000) tt
 
 -- the operands as the code has them are the parameters
@@ -24,7 +24,7 @@ coded : (s : tie.Start) (R : ℤ → ℤ → Type 0) → R s.args.n s.args.d →
 coded s R h = subst₂ R (sym (to_z-of_z s.ranges.n)) (sym (to_z-of_z s.ranges.d)) h
 
 returns-then-d-lt1 : tie.Need-returns-then-d-lt1
-returns-then-d-lt1 c = record { is = no_floor c.before.args.n (passed (given c.before) c.if-d-lt1.true (search tests depth 30 fits 9000) tt) }
+returns-then-d-lt1 c = record { is = no_floor c.args.n (passed (given c.before) c.if-d-lt1.true (search tests depth 30 fits 9000) tt) }
 
 nonzero_div-q : tie.Need-nonzero_div-q
 nonzero_div-q c =

@@ -43,20 +43,20 @@ returns-then-d-lt1 c =
     let l = passed (given c.before) c.if-d-lt1.true (search tests depth 30 fits 9000) tt in
     record { nearest = λ h. clash_ℤ l (0<→1≤ h); otherwise = λ _. refl }
 
-positive : (c : tie.Else-d-lt1) → pos 1 ≤ℤ c.before.args.d
+positive : (c : tie.Else-d-lt1) → pos 1 ≤ℤ c.args.d
 positive c = failed (given c.before) c.if-d-lt1.false (search tests depth 30 fits 9000) tt
 
 nonzero_div-half : tie.Need-nonzero_div-half
 nonzero_div-half c = (
   omega arith,
-  subst (λ (v : ℤ). SFits w64 (quot_z v (pos 2))) (sym (to_z-of_z c.before.ranges.d)) (quot_fits w64 {d = pos 2} (le_z_yes tt) c.before.ranges.d),
+  subst (λ (v : ℤ). SFits w64 (quot_z v (pos 2))) (sym (to_z-of_z c.ranges.d)) (quot_fits w64 {d = pos 2} (le_z_yes tt) c.ranges.d),
 )
 
-half : (c : tie.Else-d-lt1) → let d = c.before.args.d in Half d (quot_z d (pos 2))
+half : (c : tie.Else-d-lt1) → let d = c.args.d in Half d (quot_z d (pos 2))
 half c = half_of (positive c)
 
-half_is : (c : tie.Else-d-lt1) → let d = c.before.args.d in to_z w64 (of_z w64 (quot_z (to_z w64 (of_z w64 d)) (pos 2))) ≡ quot_z d (pos 2)
-half_is c = to_z-of_z (nonzero_div-half c).1 ∙ ap (λ (v : ℤ). quot_z v (pos 2)) (to_z-of_z c.before.ranges.d)
+half_is : (c : tie.Else-d-lt1) → let d = c.args.d in to_z w64 (of_z w64 (quot_z (to_z w64 (of_z w64 d)) (pos 2))) ≡ quot_z d (pos 2)
+half_is c = to_z-of_z (nonzero_div-half c).1 ∙ ap (λ (v : ℤ). quot_z v (pos 2)) (to_z-of_z c.ranges.d)
 
 -- so the nearest is answered
 answer : (c : tie.Else-d-lt1) {r : ℤ} → let s = c.before in Nearest s.args.n s.args.d r → Rounded s.args.n s.args.d r
@@ -86,7 +86,7 @@ returns-then-n-lt-ROOM c =
 
 -- ---- any other n: d is taken off first, and what is left is not below 0
 
-rest_most : (c : tie.Else-n-lt-ROOM) → let s = c.before.before.args in (pos 0 ≤ℤ (s.n -ℤ s.d +ℤ quot_z s.d (pos 2))) × ((s.n -ℤ s.d +ℤ quot_z s.d (pos 2)) <ℤ pos 9223372036854775807)
+rest_most : (c : tie.Else-n-lt-ROOM) → let s = c.args in (pos 0 ≤ℤ (s.n -ℤ s.d +ℤ quot_z s.d (pos 2))) × ((s.n -ℤ s.d +ℤ quot_z s.d (pos 2)) <ℤ pos 9223372036854775807)
 rest_most c =
     let s = c.before.before in
     let h = half c.before in
@@ -105,7 +105,7 @@ overflow_sub-n c =
     difference room n d = lin (room ∷ n ∷ d ∷ []) (search says depth 30 fits 9000) (omega arith)
 
 -- the difference, as the code has it
-difference_is : (c : tie.Else-n-lt-ROOM) → let s = c.before.before.args in to_z w64 (of_z w64 (to_z w64 (of_z w64 s.n) -ℤ to_z w64 (of_z w64 s.d))) ≡ s.n -ℤ s.d
+difference_is : (c : tie.Else-n-lt-ROOM) → let s = c.args in to_z w64 (of_z w64 (to_z w64 (of_z w64 s.n) -ℤ to_z w64 (of_z w64 s.d))) ≡ s.n -ℤ s.d
 difference_is c = let s = c.before.before in to_z-of_z (overflow_sub-n c) ∙ ap₂ ◌-ℤ◌ (to_z-of_z s.ranges.n) (to_z-of_z s.ranges.d)
 
 overflow_add-n-2 : tie.Need-overflow_add-n-2

@@ -40,7 +40,7 @@ returns : tie.Need-returns
 returns c =
     let appended = c.before.before.before in
     let found = appended.before.before.before in
-    taken found.find-end.result appended.before.part.result.now found.find-end.ensures appended.before.part.ensures appended.append-n.ensures c.following.ensures
+    taken found.find-end.result appended.part.result.now found.find-end.ensures appended.part.ensures appended.append-n.ensures c.following.ensures
 
 pub take_spec : {M : Type 1} → statement M
 take_spec =

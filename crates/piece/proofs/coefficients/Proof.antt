@@ -24,7 +24,7 @@ in_units-u-requires c κs =
     record { unit_size = as_coded₁ (given c) UnitSize (search arguments depth 30 fits 9000) tt c.requires.unit_size; within = sized (given c) (search code depth 30 fits 9000) tt; within_2 = sized (given c) (search code depth 30 fits 9000) tt }
 
 -- Z, a and b
-units : (c : tie.After-in_units-u) → let s = c.before.args in let r = c.in_units_lem.result in UnitsOf s.unit s.h s.z s.m s.n r.rise r.a r.b
+units : (c : tie.After-in_units-u) → let s = c.args in let r = c.in_units_lem.result in UnitsOf s.unit s.h s.z s.m s.n r.rise r.a r.b
 units c =
     let r = c.in_units_lem.result in
     plainly₅ (given c.before) (λ (U h z m n : ℤ). UnitsOf U h z m n r.rise r.a r.b) c.in_units_lem.ensures.0 (search code depth 30 fits 9000) (search arguments depth 30 fits 9000) tt

@@ -34,10 +34,10 @@ turned-requires c κs = sized (given c) (search code depth 30 fits 9000) tt
 turned-requires-2 : tie.Need-turned-requires-2
 turned-requires-2 c κs = sized (given c.before) (search code depth 30 fits 9000) tt
 
-width : (c : tie.After-turned) → WithSign c.before.args.z c.before.args.h c.turned.result
+width : (c : tie.After-turned) → WithSign c.args.z c.args.h c.turned.result
 width c = plainly₂ (given c.before) (λ (sign x : ℤ). WithSign sign x c.turned.result) c.turned.ensures (search arguments depth 30 fits 9000) tt
 
-rise : (c : tie.After-turned-2) → let z = c.before.before.args.z in WithSign z z c.turned-2.result
+rise : (c : tie.After-turned-2) → let z = c.args.z in WithSign z z c.turned-2.result
 rise c = plainly₂ (given c.before.before) (λ (sign x : ℤ). WithSign sign x c.turned-2.result) c.turned-2.ensures (search arguments depth 30 fits 9000) tt
 
 -- as large as they were
@@ -49,11 +49,11 @@ rise_size c = as_large (rise c) (sized (given c.before.before) (search code dept
 
 abbrev after : tie.After-turned-2 → List Known
 after c =
-    known c.before.turned.result 1024 (width_size c.before) ∷ known c.turned-2.result 1048576 (rise_size c) ∷ given c.before.before
+    known c.turned.result 1024 (width_size c.before) ∷ known c.turned-2.result 1048576 (rise_size c) ∷ given c.before.before
 
 in_units-u-requires : tie.Need-in_units-u-requires
 in_units-u-requires c κs =
-    record { unit_size = as_coded₁ (after c) UnitSize (search arguments depth 30 fits 9000) tt c.before.before.requires.unit_size; within = sized (after c) (search code depth 30 fits 9000) tt; within_2 = sized (after c) (search code depth 30 fits 9000) tt }
+    record { unit_size = as_coded₁ (after c) UnitSize (search arguments depth 30 fits 9000) tt c.requires.unit_size; within = sized (after c) (search code depth 30 fits 9000) tt; within_2 = sized (after c) (search code depth 30 fits 9000) tt }
 
 -- its Z, a and b
 module _ (c : tie.After-in_units-u) where
@@ -90,7 +90,7 @@ never_against-requires c κs =
 returns : tie.Need-returns
 returns c =
     let p = c.before.before.before.before in
-    let a = p.before.before.before.args in
+    let a = p.args in
     decided_by _
     (λ e. turned_accepts a.unit a.h a.z a.m a.n (turned_so p (plainly₃ (made p) NeverAgainst (told c.never_against.ensures e) (search arguments depth 30 fits 9000) tt)))
     (λ e m. denied c.never_against.ensures e (as_coded₃ (made p) NeverAgainst (search arguments depth 30 fits 9000) tt (so_turned p (turned_complete a.unit a.h a.z a.m a.n m))))

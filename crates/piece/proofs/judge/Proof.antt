@@ -31,10 +31,10 @@ unit_within-requires : tie.Need-unit_within-requires
 unit_within-requires c κs = search rules
 
 returns-then-not-unit_within : tie.Need-returns-then-not-unit_within
-returns-then-not-unit_within c = unit_refused (denied c.before.unit_within.ensures (not-true _ c.if-not-unit_within.true))
+returns-then-not-unit_within c = unit_refused (denied c.unit_within.ensures (not-true _ c.if-not-unit_within.true))
 
-in_nine : (c : tie.Else-not-unit_within) → UnitWithin c.before.before.args.s
-in_nine c = told c.before.unit_within.ensures (not-false _ c.if-not-unit_within.false)
+in_nine : (c : tie.Else-not-unit_within) → UnitWithin c.args.s
+in_nine c = told c.unit_within.ensures (not-false _ c.if-not-unit_within.false)
 
 width_within-requires : tie.Need-width_within-requires
 width_within-requires c κs = search rules
@@ -43,7 +43,7 @@ returns-then-not-width_within : tie.Need-returns-then-not-width_within
 returns-then-not-width_within c =
     let p = c.before.before in
     width_refused (in_nine p)
-    (λ w. denied c.before.width_within.ensures (not-true _ c.if-not-width_within.true) (subst WidthWithin (sym (to_z-of_z p.before.before.ranges.h)) w))
+    (λ w. denied c.width_within.ensures (not-true _ c.if-not-width_within.true) (subst WidthWithin (sym (to_z-of_z p.ranges.h)) w))
 
 rise_within-requires : tie.Need-rise_within-requires
 rise_within-requires c κs = search rules
@@ -52,7 +52,7 @@ abbrev start : tie.Else-not-width_within → tie.Start
 start c = c.before.before.before.before
 
 wide_enough : (c : tie.Else-not-width_within) → WidthWithin (to_z w64 (of_z w64 (start c).args.h))
-wide_enough c = told c.before.width_within.ensures (not-false _ c.if-not-width_within.false)
+wide_enough c = told c.width_within.ensures (not-false _ c.if-not-width_within.false)
 
 width : (c : tie.Else-not-width_within) → WidthWithin (start c).args.h
 width c = subst WidthWithin (to_z-of_z (start c).ranges.h) (wide_enough c)
@@ -61,12 +61,12 @@ returns-then-not-rise_within : tie.Need-returns-then-not-rise_within
 returns-then-not-rise_within c =
     let p = c.before.before in
     rise_refused (in_nine p.before.before) (width p)
-    (λ r. denied c.before.rise_within.ensures (not-true _ c.if-not-rise_within.true) (subst RiseWithin (sym (to_z-of_z (start p).ranges.z)) r))
+    (λ r. denied c.rise_within.ensures (not-true _ c.if-not-rise_within.true) (subst RiseWithin (sym (to_z-of_z (start p).ranges.z)) r))
 
 -- ---- within the limits
 
 risen_enough : (c : tie.Else-not-rise_within) → RiseWithin (to_z w64 (of_z w64 (start c.before.before).args.z))
-risen_enough c = told c.before.rise_within.ensures (not-false _ c.if-not-rise_within.false)
+risen_enough c = told c.rise_within.ensures (not-false _ c.if-not-rise_within.false)
 
 rise : (c : tie.Else-not-rise_within) → RiseWithin (start c.before.before).args.z
 rise c = subst RiseWithin (to_z-of_z (start c.before.before).ranges.z) (risen_enough c)
@@ -95,7 +95,7 @@ module _ (c : tie.After-is_monotone) where
 
   decided : Decided (Monotone (unit s.args.s) s.args.h s.args.z s.args.m s.args.n) c.is_monotone.result
   decided =
-      subst (λ (U : ℤ). Decided (Monotone U s.args.h s.args.z s.args.m s.args.n) c.is_monotone.result) c.before.unit.ensures.value
+      subst (λ (U : ℤ). Decided (Monotone U s.args.h s.args.z s.args.m s.args.n) c.is_monotone.result) c.unit.ensures.value
       (plainly₅ (with_unit c.before) (λ (U h z m n : ℤ). Decided (Monotone U h z m n) c.is_monotone.result) c.is_monotone.ensures (search code depth 30 fits 9000) (search arguments depth 30 fits 9000) tt)
 
 returns-then-not-is_monotone : tie.Need-returns-then-not-is_monotone
@@ -123,7 +123,7 @@ returns c =
     let m = e.before in
     let Γ = given (s m) in
     is_flat (u m) (width (within m).before.before) (rise (within m))
-    (≤ℤ_antisym (failed Γ c.before.if-z-gt0.false (search tests depth 30 fits 9000) tt) (failed Γ c.if-z-lt0.false (search tests depth 30 fits 9000) tt)) (is_so e)
+    (≤ℤ_antisym (failed Γ c.if-z-gt0.false (search tests depth 30 fits 9000) tt) (failed Γ c.if-z-lt0.false (search tests depth 30 fits 9000) tt)) (is_so e)
 
 pub judge_spec : {M : Type 1} → statement M
 judge_spec =

@@ -23,11 +23,11 @@ turned-requires : tie.Need-turned-requires
 turned-requires c κs = as_coded₁ (given c) (Within 3000000000) (search arguments depth 30 fits 9000) tt c.requires.over
 
 -- what it has over, without its sign
-size : (c : tie.After-turned) → let o = c.before.args.over in WithSign o o c.turned.result
+size : (c : tie.After-turned) → let o = c.args.over in WithSign o o c.turned.result
 size c = plainly₂ (given c.before) (λ (sign x : ℤ). WithSign sign x c.turned.result) c.turned.ensures (search arguments depth 30 fits 9000) tt
 
 abbrev with_size : tie.After-turned → List Known
-with_size c = known c.turned.result 3000000000 (as_large (size c) c.before.requires.over) ∷ given c.before
+with_size c = known c.turned.result 3000000000 (as_large (size c) c.requires.over) ∷ given c.before
 
 overflow_mul-result : tie.Need-overflow_mul-result
 overflow_mul-result c = fits (with_size c) (search code depth 30 fits 9000) tt
@@ -37,7 +37,7 @@ overflow_mul-result-2 c = fits (with_size c) (search code depth 30 fits 9000) tt
 
 returns : tie.Need-returns
 returns c =
-    let a = c.before.args in
+    let a = c.args in
     decided_by _
     (λ e. record { within = subst (λ (x : ℤ). (a.over *ℤ x) ≤ℤ (a.a *ℤ a.b)) (size c).is (passed (with_size c) e (search tests depth 30 fits 9000) tt) })
     (λ e i. clash_ℤ (failed (with_size c) e (search tests depth 30 fits 9000) tt) (subst (λ (x : ℤ). (a.over *ℤ x) ≤ℤ (a.a *ℤ a.b)) (sym (size c).is) i.within))

@@ -20,11 +20,11 @@ given s = table s.args.s s.args.knots.now s.args.values.now s.args.slopes.now
 
 returns-then-refusal-ne-DONE : tie.Need-returns-then-refusal-ne-DONE
 returns-then-refusal-ne-DONE c =
-    record { refusal = table_refused c.before.before.check-refusal.ensures c.if-refusal-ne-DONE.true; piece = refused_answer c.if-refusal-ne-DONE.true }
+    record { refusal = table_refused c.check-refusal.ensures c.if-refusal-ne-DONE.true; piece = refused_answer c.if-refusal-ne-DONE.true }
 
 seek-requires : tie.Need-seek-requires
 seek-requires c κs =
-    let a = accepted_table c.if-refusal-ne-DONE.false c.before.before.check-refusal.ensures in
+    let a = accepted_table c.if-refusal-ne-DONE.false c.check-refusal.ensures in
     record { points_within = a.limits; slopes_len = a.slopes }
 
 enum_told-1 : tie.Need-enum_told-1
@@ -34,7 +34,7 @@ enum_known-spot : tie.Need-enum_known-spot
 enum_known-spot c = search rules
 
 -- where the position lies, said of the position itself
-sought : (c : tie.After-seek) → let a = c.before.before.before.before.args in SoughtIn a.knots.now a.values.now a.slopes.now c.before.before.before.before.args.position c.seek.result
+sought : (c : tie.After-seek) → let a = c.args in SoughtIn a.knots.now a.values.now a.slopes.now c.args.position c.seek.result
 sought c =
     let s = c.before.before.before.before in
     subst (λ (x : ℤ). SoughtIn s.args.knots.now s.args.values.now s.args.slopes.now x c.seek.result) (to_z-of_z s.ranges.position) c.seek.ensures
@@ -44,7 +44,7 @@ returns-in-Outside c =
     let k = c.before.before in
     let e = k.before in
     record {
-      refusal = position_refused e.before.before.check-refusal.ensures e.if-refusal-ne-DONE.false (sought_outside (subst (SoughtIn _ _ _ _) c.enum_told-1.given.1 (sought k)));
+      refusal = position_refused e.check-refusal.ensures e.if-refusal-ne-DONE.false (sought_outside (subst (SoughtIn _ _ _ _) c.enum_told-1.given.1 (sought k)));
       piece = refused_answer (λ n. omega (arith, n));
     }
 
@@ -52,9 +52,9 @@ returns-in-On : tie.Need-returns-in-On
 returns-in-On c =
     let k = c.before.before.before in
     let e = k.before in
-    let on = sought_on (subst (SoughtIn _ _ _ _) c.before.spot-1.given.1 (sought k)) in
+    let on = sought_on (subst (SoughtIn _ _ _ _) c.spot-1.given.1 (sought k)) in
     record {
-      refusal = none_refused e.before.before.check-refusal.ensures e.if-refusal-ne-DONE.false on.0;
+      refusal = none_refused e.check-refusal.ensures e.if-refusal-ne-DONE.false on.0;
       piece = right_answer e.if-refusal-ne-DONE.false on.1.belongs;
     }
 

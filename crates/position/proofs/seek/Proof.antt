@@ -17,16 +17,16 @@ within-requires c κs = omega (arith, c.requires.points_within.count.low)
 returns-then-not-within : tie.Need-returns-then-not-within
 returns-then-not-within c =
     let s = c.before.before in
-    outside (λ w. denied c.before.within.ensures (not-true _ c.if-not-within.true) (subst (WithinKnots s.args.knots.now) (sym (to_z-of_z s.ranges.position)) w))
+    outside (λ w. denied c.within.ensures (not-true _ c.if-not-within.true) (subst (WithinKnots s.args.knots.now) (sym (to_z-of_z s.ranges.position)) w))
 
 piece-piece-requires : tie.Need-piece-piece-requires
 piece-piece-requires c κs =
-    let p = c.before.before.requires.points_within in
-    record { in_bounds = omega (arith, p.count.low); knots_bound = ten_halvings p; within_knots = told c.before.within.ensures (not-false _ c.if-not-within.false) }
+    let p = c.requires.points_within in
+    record { in_bounds = omega (arith, p.count.low); knots_bound = ten_halvings p; within_knots = told c.within.ensures (not-false _ c.if-not-within.false) }
 
 spot_on-requires : tie.Need-spot_on-requires
 spot_on-requires c κs =
-    let p = c.before.before.before.requires in
+    let p = c.requires in
     record { points_within = p.0; slopes_len = p.1; belongs = c.piece-piece.ensures }
 
 returns : tie.Need-returns
@@ -34,8 +34,8 @@ returns c =
     let e = c.before.before in
     let s = e.before.before in
     let r = c.spot_on.result in
-    on (subst (WithinKnots s.args.knots.now) (to_z-of_z s.ranges.position) (told e.before.within.ensures (not-false _ e.if-not-within.false)))
-    (subst (λ (x : ℤ). SpotOn s.args.knots.now s.args.values.now s.args.slopes.now r.piece-piece x r.left r.h r.z r.m r.n r.t) (to_z-of_z s.ranges.position) c.spot_on.ensures)
+    on (subst (WithinKnots s.args.knots.now) (to_z-of_z s.ranges.position) (told e.within.ensures (not-false _ e.if-not-within.false)))
+    (subst (λ (x : ℤ). SpotOn s.args.knots.now s.args.values.now s.args.slopes.now r.piece x r.left r.h r.z r.m r.n r.t) (to_z-of_z s.ranges.position) c.spot_on.ensures)
 
 pub seek_spec : {M : Type 1} → statement M
 seek_spec =

@@ -74,31 +74,31 @@ difference-t-requires c κs = search rules
 
 -- ---- each number, as the code has it
 
-left : (c : tie.After-left-1) → SFits w32 (entry c.before.args.values.now c.before.args.i)
+left : (c : tie.After-left-1) → SFits w32 (entry c.args.values.now c.args.i)
 left c = record { sfits = c.left-1.given }
 
-width : (c : tie.After-step-h) → let s = c.before.before.args in to_z w64 (of_z w64 c.step-h.result) ≡ step s.knots.now s.i
+width : (c : tie.After-step-h) → let s = c.args in to_z w64 (of_z w64 c.step-h.result) ≡ step s.knots.now s.i
 width c = returned w64 c.step-h.type_inv c.step-h.ensures
 
-right : (c : tie.After-difference-arg-1) → let s = c.before.before.before.args in SFits w32 (entry s.values.now (s.i + 1))
+right : (c : tie.After-difference-arg-1) → let s = c.args in SFits w32 (entry s.values.now (s.i + 1))
 right c = record { sfits = c.difference-arg-1.given }
 
-rise : (c : tie.After-difference-z) → let s = c.before.before.before.before.args in to_z w64 (of_z w64 c.difference-z.result) ≡ step s.values.now s.i
+rise : (c : tie.After-difference-z) → let s = c.args in to_z w64 (of_z w64 c.difference-z.result) ≡ step s.values.now s.i
 rise c =
     let l = held w32 _ (left c.before.before.before) in
     let r = held w32 _ (right c.before) in
     returned w64 c.difference-z.type_inv (c.difference-z.ensures ∙ plain_is {Γ = l ∷ r ∷ []} (search code depth 30 fits 9000) tt)
 
-slope : (c : tie.After-m-1) → let s = c.before.before.before.before.before.args in to_z w32 (of_z w32 (entry s.slopes.now s.i)) ≡ entry s.slopes.now s.i
+slope : (c : tie.After-m-1) → let s = c.args in to_z w32 (of_z w32 (entry s.slopes.now s.i)) ≡ entry s.slopes.now s.i
 slope c = to_z-of_z (record { sfits = c.m-1.given })
 
-next_slope : (c : tie.After-n-1) → let s = c.before.before.before.before.before.before.args in to_z w32 (of_z w32 (entry s.slopes.now (s.i + 1))) ≡ entry s.slopes.now (s.i + 1)
+next_slope : (c : tie.After-n-1) → let s = c.args in to_z w32 (of_z w32 (entry s.slopes.now (s.i + 1))) ≡ entry s.slopes.now (s.i + 1)
 next_slope c = to_z-of_z (record { sfits = c.n-1.given })
 
-place : (c : tie.After-difference-t) → let s = c.before.before.before.before.before.before.before.before.args in to_z w64 (of_z w64 c.difference-t.result) ≡ s.position -ℤ entry s.knots.now s.i
+place : (c : tie.After-difference-t) → let s = c.args in to_z w64 (of_z w64 c.difference-t.result) ≡ s.position -ℤ entry s.knots.now s.i
 place c =
     let s = c.before.before.before.before.before.before.before.before in
-    let l = held w32 (entry s.args.knots.now s.args.i) (record { sfits = c.before.difference-arg-2-1.given }) in
+    let l = held w32 (entry s.args.knots.now s.args.i) (record { sfits = c.difference-arg-2-1.given }) in
     let at = held w32 s.args.position s.ranges.position in
     returned w64 c.difference-t.type_inv (c.difference-t.ensures ∙ plain_is {Γ = l ∷ at ∷ []} (search code depth 30 fits 9000) tt)
 
@@ -108,11 +108,11 @@ returns c =
     let at-m = at_n.before in
     let at-rise = at-m.before in
     let at_left = at-rise.before.before.before in
-    let s = at_left.before.args in
+    let s = at_left.args in
     let left_is = to_z-of_z (left at_left) in
     let z_is = rise at-rise in
     record {
-      belongs = at_left.before.requires.belongs;
+      belongs = at_left.requires.belongs;
       left_is = left_is;
       h_is = width at-rise.before.before;
       z_is = z_is;

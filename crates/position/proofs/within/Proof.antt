@@ -45,7 +45,7 @@ last c =
 returns : tie.Need-returns
 returns c =
     decided_by _ (λ e. record {
-      low = failed (first c.before.before) c.before.if-position-knots.false (search tests depth 30 fits 9000) tt;
+      low = failed (first c.before.before) c.if-position-knots.false (search tests depth 30 fits 9000) tt;
       high = passed (last c) e (search tests depth 30 fits 9000) tt;
     }) (λ e b. clash_ℤ (failed (last c) e (search tests depth 30 fits 9000) tt) b.high)
 

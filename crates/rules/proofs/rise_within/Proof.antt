@@ -10,7 +10,7 @@ between-requires : tie.Need-between-requires
 between-requires c κs = search rules
 
 returns : tie.Need-returns
-returns c = asked RiseWithin {b = c.between.result} (to_z-of_z c.before.ranges.z) c.between.ensures
+returns c = asked RiseWithin {b = c.between.result} (to_z-of_z c.ranges.z) c.between.ensures
 
 pub rise_within_spec : {M : Type 1} → statement M
 rise_within_spec = tie.close (tie.spec between-requires returns)

@@ -10,7 +10,7 @@ between-requires : tie.Need-between-requires
 between-requires c κs = search rules
 
 returns : tie.Need-returns
-returns c = asked WidthWithin {b = c.between.result} (to_z-of_z c.before.ranges.h) c.between.ensures
+returns c = asked WidthWithin {b = c.between.result} (to_z-of_z c.ranges.h) c.between.ensures
 
 pub width_within_spec : {M : Type 1} → statement M
 width_within_spec = tie.close (tie.spec between-requires returns)

@@ -20,9 +20,9 @@ shape_of-into-then-k-lt3 c = search rules
 
 returns-then-k-lt3 : tie.Need-returns-then-k-lt3
 returns-then-k-lt3 c =
-    let a = c.before.before.before.before.before.before.before.args in
-    let r = c.before.before.append_signed in
-    subst⁻¹ (λ (l : List ℕ). Appended a.into-1.now a.held l r.new.0 r.result) c.before.before.before.pick.ensures r.ensures
+    let a = c.args in
+    let r = c.append_signed in
+    subst⁻¹ (λ (l : List ℕ). Appended a.into.now a.held l r.new.0 r.result) c.pick.ensures r.ensures
 
 append-requires : tie.Need-append-requires
 append-requires c κs = search rules
@@ -32,10 +32,10 @@ shape_of-into c = search rules
 
 returns : tie.Need-returns
 returns c =
-    let a = c.before.before.before.before.before.before.before.args in
-    let r = c.before.before.append in
-    subst⁻¹ (λ (l : List ℕ). Appended a.into-1.now a.held l r.new.0 r.result)
-    (ap next_text (drop_of_length-le (a.first ∷ a.second ∷ a.third ∷ []) c.before.before.before.before.before.if-k-lt3.false))
+    let a = c.args in
+    let r = c.append in
+    subst⁻¹ (λ (l : List ℕ). Appended a.into.now a.held l r.new.0 r.result)
+    (ap next_text (drop_of_length-le (a.first ∷ a.second ∷ a.third ∷ []) c.if-k-lt3.false))
     r.ensures
 
 pub append_next_spec : {M : Type 1} → statement M

@@ -21,11 +21,11 @@ shape_of-into-then-number c = search rules
 
 returns-then-number : tie.Need-returns-then-number
 returns-then-number c =
-    let a = c.before.before.before.before.before.before.before.before.before.before.before.args in
-    let r = c.before.before.append_natural in
-    let signed = c.before.before.before.before.before.before.append-signed in
-    subst⁻¹ (λ (l : List ℕ). Appended a.into-1.now a.held l r.new.0 r.result)
-    (ap (λ (t : Bool). cond t (45 ∷ decimal_of a.number.size) (decimal_of a.number.size)) c.before.before.before.before.before.before.before.before.before.if-number.true)
+    let a = c.args in
+    let r = c.append_natural in
+    let signed = c.append-signed in
+    subst⁻¹ (λ (l : List ℕ). Appended a.into.now a.held l r.new.0 r.result)
+    (ap (λ (t : Bool). cond t (45 ∷ decimal_of a.number.size) (decimal_of a.number.size)) c.if-number.true)
     (both {m = 45 ∷ []} signed.ensures r.ensures)
 
 append_natural-requires-2 : tie.Need-append_natural-requires-2
@@ -36,10 +36,10 @@ shape_of-into c = search rules
 
 returns : tie.Need-returns
 returns c =
-    let a = c.before.before.before.before.before.before.args in
-    let r = c.before.before.append_natural-2 in
-    subst⁻¹ (λ (l : List ℕ). Appended a.into-1.now a.held l r.new.0 r.result)
-    (ap (λ (t : Bool). cond t (45 ∷ decimal_of a.number.size) (decimal_of a.number.size)) c.before.before.before.before.if-number.false)
+    let a = c.args in
+    let r = c.append_natural-2 in
+    subst⁻¹ (λ (l : List ℕ). Appended a.into.now a.held l r.new.0 r.result)
+    (ap (λ (t : Bool). cond t (45 ∷ decimal_of a.number.size) (decimal_of a.number.size)) c.if-number.false)
     r.ensures
 
 pub append_signed_spec : {M : Type 1} → statement M

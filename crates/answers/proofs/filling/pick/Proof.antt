@@ -11,7 +11,7 @@ returns-then-k-eq1 : tie.Need-returns-then-k-eq1
 returns-then-k-eq1 c = rw c.if-k-eq1.true
 
 returns : tie.Need-returns
-returns c = let two : c.before.before.args.k ≡ 2 = omega arith in rw two
+returns c = let two : c.args.k ≡ 2 = omega arith in rw two
 
 pub pick_spec : {M : Type 1} → statement M
 pick_spec = tie.close (tie.spec returns-then-k-eq0 returns-then-k-eq1 returns)

@@ -44,14 +44,14 @@ plain (negsuc n) e = let z : ◌≡◌ {A = ℕ} 0 1 = cc in absurd (omega arith
 itself : (c : tie.Start) → to_z w64 (of_z w64 c.args.n) ≡ c.args.n
 itself c = to_z-of_z c.ranges.n
 
-at : (c : tie.Then-n-lt0) → Less (to_z w64 (of_z w64 c.before.args.n))
-at c = negative _ (subst⁻¹ (λ (z : ℤ). nat_abs z < 9223372036854775809) (itself c.before) (omega (arith, nat_abs-le c.before.args.n c.before.ranges.n.sfits))) c.if-n-lt0.true
+at : (c : tie.Then-n-lt0) → Less (to_z w64 (of_z w64 c.args.n))
+at c = negative _ (subst⁻¹ (λ (z : ℤ). nat_abs z < 9223372036854775809) (itself c.before) (omega (arith, nat_abs-le c.args.n c.ranges.n.sfits))) c.if-n-lt0.true
 
 overflow_sub-result : tie.Need-overflow_sub-result
 overflow_sub-result c = subst⁻¹ (SFits w64) (at c).made (record { sfits = omega (arith, (at c).small) })
 
 -- the difference, behind its bits
-difference : (c : tie.Then-n-lt0) → to_z w64 (of_z w64 (negsuc 0 -ℤ to_z w64 (of_z w64 c.before.args.n))) ≡ pos (at c).less
+difference : (c : tie.Then-n-lt0) → to_z w64 (of_z w64 (negsuc 0 -ℤ to_z w64 (of_z w64 c.args.n))) ≡ pos (at c).less
 difference c = to_z-of_z (overflow_sub-result c) ∙ (at c).made
 
 overflow_cast-result : tie.Need-overflow_cast-result
@@ -64,14 +64,14 @@ returns-then-n-lt0 : tie.Need-returns-then-n-lt0
 returns-then-n-lt0 c = ap (λ (z : ℤ). below_zero (nat_abs z + 1)) (difference c) ∙ (at c).written ∙ ap whole_as (itself c.before)
 
 overflow_cast-n : tie.Need-overflow_cast-n
-overflow_cast-n c = fits_natural c.before.args.n c.before.ranges.n c.if-n-lt0.false
+overflow_cast-n c = fits_natural c.args.n c.ranges.n c.if-n-lt0.false
 
 natural-requires : tie.Need-natural-requires
 natural-requires c κs = search rules
 
 returns : tie.Need-returns
 returns c =
-    c.natural.ensures ∙ plain (to_z w64 (of_z w64 c.before.before.args.n)) c.before.if-n-lt0.false ∙ ap whole_as (itself c.before.before)
+    c.natural.ensures ∙ plain (to_z w64 (of_z w64 c.args.n)) c.if-n-lt0.false ∙ ap whole_as (itself c.before.before)
 
 pub whole_spec : {M : Type 1} → statement M
 whole_spec =

@@ -18,7 +18,7 @@ whole-requires : tie.Need-whole-requires
 whole-requires c κs = search rules
 
 returns : tie.Need-returns
-returns c = c.whole.ensures ∙ ap whole_as (to_z-of_z (wide c.before) ∙ to_z-of_z c.before.ranges.n)
+returns c = c.whole.ensures ∙ ap whole_as (to_z-of_z (wide c.before) ∙ to_z-of_z c.ranges.n)
 
 pub whole32_spec : {M : Type 1} → statement M
 whole32_spec = tie.close (tie.spec overflow_cast-n whole-requires returns)

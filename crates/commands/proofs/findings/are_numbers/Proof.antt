@@ -10,8 +10,8 @@ use Rattle.commands.proofs.findings.are_numbers.Tie as tie
 
 -- what was found of their number, and what the words are asked
 after : (c : tie.After-are_words) {found : Finding} → c.are_words.result ≡ found
-    → or_else found (first_fault c.before.before.args.wides 1 (words_of (drop c.before.before.args.from c.before.before.args.line.now)))
-    ≡ numbers c.before.before.args.n c.before.before.args.wides (words_of (drop c.before.before.args.from c.before.before.args.line.now))
+    → or_else found (first_fault c.args.wides 1 (words_of (drop c.args.from c.args.line.now)))
+    ≡ numbers c.args.n c.args.wides (words_of (drop c.args.from c.args.line.now))
 unfolding numbers
 after c e = ap₂ or_else (sym e ∙ c.are_words.ensures) refl
 
@@ -29,11 +29,11 @@ enum_known-fault c = search rules
 
 returns-in-Clear : tie.Need-returns-in-Clear
 unfolding or_else
-returns-in-Clear c = c.first_fault.ensures ∙ after c.before.before.before c.before.enum_told-1.given.1
+returns-in-Clear c = c.first_fault.ensures ∙ after c.before.before.before c.enum_told-1.given.1
 
 returns-in-Faulty : tie.Need-returns-in-Faulty
 unfolding or_else
-returns-in-Faulty c = after c.before.before.before c.before.fault-1.given.1
+returns-in-Faulty c = after c.before.before.before c.fault-1.given.1
 
 pub are_numbers_spec : {M : Type 1} → statement M
 are_numbers_spec =

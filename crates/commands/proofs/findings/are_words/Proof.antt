@@ -10,15 +10,15 @@ count-found-requires c κs = search rules
 
 returns-then-found-n : tie.Need-returns-then-found-n
 unfolding counted
-returns-then-found-n c = rw (← c.before.count-found.ensures, lt-ltb _ _ c.if-found-n.true)
+returns-then-found-n c = rw (← c.count-found.ensures, lt-ltb _ _ c.if-found-n.true)
 
 returns-then-n-found : tie.Need-returns-then-n-found
 unfolding counted
-returns-then-n-found c = rw (← c.before.before.count-found.ensures, le-ltb _ _ c.before.if-found-n.false, lt-ltb _ _ c.if-n-found.true)
+returns-then-n-found c = rw (← c.count-found.ensures, le-ltb _ _ c.if-found-n.false, lt-ltb _ _ c.if-n-found.true)
 
 returns : tie.Need-returns
 unfolding counted
-returns c = rw (← c.before.before.count-found.ensures, le-ltb _ _ c.before.if-found-n.false, le-ltb _ _ c.if-n-found.false)
+returns c = rw (← c.count-found.ensures, le-ltb _ _ c.if-found-n.false, le-ltb _ _ c.if-n-found.false)
 
 pub are_words_spec : {M : Type 1} → statement M
 are_words_spec = tie.close (tie.spec count-found-requires returns-then-found-n returns-then-n-found returns)

@@ -9,14 +9,14 @@ use Rattle.commands.proofs.findings.is_number.Statement.{statement}
 use Rattle.commands.proofs.findings.is_number.Tie as tie
 
 wide : (c : tie.After-whole) {m : Number} → c.whole.result ≡ m
-    → found64 c.before.before.before.args.k m ≡ is_number c.before.before.before.args.wides c.before.before.before.args.k c.before.before.before.args.word.now
+    → found64 c.args.k m ≡ is_number c.args.wides c.args.k c.args.word.now
 unfolding is_number
-wide c e = rw (le-leb _ _ c.before.if-k-wides.true) (ap (found64 _) (sym e ∙ c.whole.ensures))
+wide c e = rw (le-leb _ _ c.if-k-wides.true) (ap (found64 _) (sym e ∙ c.whole.ensures))
 
 narrow : (c : tie.After-whole32) {m : Number32} → c.whole32.result ≡ m
-    → found32 c.before.before.before.args.k m ≡ is_number c.before.before.before.args.wides c.before.before.before.args.k c.before.before.before.args.word.now
+    → found32 c.args.k m ≡ is_number c.args.wides c.args.k c.args.word.now
 unfolding is_number
-narrow c e = rw (lt-leb _ _ c.before.if-k-wides.false) (ap (found32 _) (sym e ∙ c.whole32.ensures))
+narrow c e = rw (lt-leb _ _ c.if-k-wides.false) (ap (found32 _) (sym e ∙ c.whole32.ensures))
 
 whole-requires : tie.Need-whole-requires
 whole-requires c κs = search rules

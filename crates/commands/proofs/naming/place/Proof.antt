@@ -21,15 +21,15 @@ decreases-loop-start word names at₀ k₀ at k = length names - at
 
 -- the name that a turn looks at
 name : (c : tie.In-At invariant-loop-start decreases-loop-start)
-    → Found c.before.before.before.before.before.before.before.args.names.now c.before.before.before.before.loop-start.at
-    c.before.start-1.given.0.0 c.before.start-1.given.0.1.0
-name c = a_word _ _ _ _ (sym c.before.before.before.next_word.ensures ∙ c.before.start-1.given.1)
+    → Found c.args.names.now c.loop-start.at
+    c.start-1.given.0.0 c.start-1.given.0.1.0
+name c = a_word _ _ _ _ (sym c.next_word.ensures ∙ c.start-1.given.1)
 
 -- whether the word is that name
 seen : (c : tie.After-same invariant-loop-start decreases-loop-start) {b : Bool} → c.same.result ≡ b
-    → same c.before.before.before.before.before.before.before.before.before.args.word.now
-    (part_of c.before.before.before.before.before.before.before.before.before.args.names.now c.before.before.before.start-1.given.0.0 c.before.before.before.start-1.given.0.1.0) ≡ b
-seen c e = rw (← c.before.part.ensures) (compared c.same.result c.same.ensures.0 c.same.ensures.1 ∙ e)
+    → same c.args.word.now
+    (part_of c.args.names.now c.start-1.given.0.0 c.start-1.given.0.1.0) ≡ b
+seen c e = rw (← c.part.ensures) (compared c.same.result c.same.ensures.0 c.same.ensures.1 ∙ e)
 
 loop-start-init : tie.Need-loop-start-init invariant-loop-start decreases-loop-start
 loop-start-init c = (omega arith, omega arith)
@@ -50,7 +50,7 @@ returns-then-same : tie.Need-returns-then-same invariant-loop-start decreases-lo
 returns-then-same c =
     let passed = c.before.before.before in
     let here = ap (place_of _) (name passed).first ∙ place_here _ _ _ (seen c.before c.if-same.true) in
-    omega (arith, passed.before.before.before.before.loop-start.invariant.0)
+    omega (arith, passed.loop-start.invariant.0)
 
 overflow_add-k : tie.Need-overflow_add-k invariant-loop-start decreases-loop-start
 overflow_add-k c = let f = name c.before.before.before in omega arith
@@ -63,16 +63,16 @@ loop-start-preserved c =
     let passed = c.before.before.before in
     let f = name passed in
     let on = ap (place_of _) f.first ∙ place_on _ _ _ (seen c.before c.if-same.false) in
-    (omega (arith, passed.before.before.before.before.loop-start.invariant.0), omega arith)
+    (omega (arith, passed.loop-start.invariant.0), omega arith)
 
 enum_told-1 : tie.Need-enum_told-1 invariant-loop-start decreases-loop-start
 enum_told-1 c = search rules
 
 returns : tie.Need-returns invariant-loop-start decreases-loop-start
 returns c =
-    let word = c.before.before.before.before.before.before.args.word.now in
-    let none = no_word _ _ (sym c.before.before.next_word.ensures ∙ c.enum_told-1.given.1) in
-    omega (arith, c.before.before.before.loop-start.invariant.0, ap (place_of word) none ∙ no_place word)
+    let word = c.args.word.now in
+    let none = no_word _ _ (sym c.next_word.ensures ∙ c.enum_told-1.given.1) in
+    omega (arith, c.loop-start.invariant.0, ap (place_of word) none ∙ no_place word)
 
 pub place_spec : {M : Type 1} → statement M
 place_spec =

@@ -14,9 +14,9 @@ use Rattle.commands.proofs.numbers.narrow_at.Tie as tie
 
 -- what was read of the word is its value
 said : (c : tie.After-whole32) {m : Number32} → c.whole32.result ≡ m
-    → value32 m ≡ narrow c.before.before.before.args.k (words_of (drop c.before.before.before.args.from c.before.before.before.args.line.now))
+    → value32 m ≡ narrow c.args.k (words_of (drop c.args.from c.args.line.now))
 unfolding narrow
-said c e = ap value32 (sym e ∙ c.whole32.ensures ∙ ap number32_of c.before.word_at.ensures)
+said c e = ap value32 (sym e ∙ c.whole32.ensures ∙ ap number32_of c.word_at.ensures)
 
 word_at-requires : tie.Need-word_at-requires
 word_at-requires c κs = search rules
@@ -35,8 +35,8 @@ enum_told-in-TooLarge c = search rules
 
 returns-in-Is : tie.Need-returns-in-Is
 returns-in-Is c =
-    let fits : SFits w32 c.before.n-1.given.0.0 = search rules in
-    to_z-of_z fits ∙ said c.before.before.before c.before.n-1.given.1
+    let fits : SFits w32 c.n-1.given.0.0 = search rules in
+    to_z-of_z fits ∙ said c.before.before.before c.n-1.given.1
 
 returns-in-NotDecimal : tie.Need-returns-in-NotDecimal
 returns-in-NotDecimal c = said c.before.before c.enum_told-1.given.1

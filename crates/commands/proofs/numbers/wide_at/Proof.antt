@@ -14,9 +14,9 @@ use Rattle.commands.proofs.numbers.wide_at.Tie as tie
 
 -- what was read of the word is its value
 said : (c : tie.After-whole) {m : Number} → c.whole.result ≡ m
-    → value64 m ≡ wide c.before.before.before.args.k (words_of (drop c.before.before.before.args.from c.before.before.before.args.line.now))
+    → value64 m ≡ wide c.args.k (words_of (drop c.args.from c.args.line.now))
 unfolding wide
-said c e = ap value64 (sym e ∙ c.whole.ensures ∙ ap number_of c.before.word_at.ensures)
+said c e = ap value64 (sym e ∙ c.whole.ensures ∙ ap number_of c.word_at.ensures)
 
 word_at-requires : tie.Need-word_at-requires
 word_at-requires c κs = search rules
@@ -35,8 +35,8 @@ enum_told-in-TooLarge c = search rules
 
 returns-in-Is : tie.Need-returns-in-Is
 returns-in-Is c =
-    let fits : SFits w64 c.before.n-1.given.0.0 = search rules in
-    to_z-of_z fits ∙ said c.before.before.before c.before.n-1.given.1
+    let fits : SFits w64 c.n-1.given.0.0 = search rules in
+    to_z-of_z fits ∙ said c.before.before.before c.n-1.given.1
 
 returns-in-NotDecimal : tie.Need-returns-in-NotDecimal
 returns-in-NotDecimal c = said c.before.before c.enum_told-1.given.1

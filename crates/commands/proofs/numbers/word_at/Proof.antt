@@ -30,9 +30,9 @@ nowhere n e = rw e
 
 -- the word that a turn looks at
 word : (c : tie.In-At invariant-loop-start decreases-loop-start)
-    → Found c.before.before.before.before.before.before.args.line.now c.before.before.before.before.loop-start.at
-    c.before.start-1.given.0.0 c.before.start-1.given.0.1.0
-word c = a_word _ _ _ _ (sym c.before.before.before.next_word.ensures ∙ c.before.start-1.given.1)
+    → Found c.args.line.now c.loop-start.at
+    c.start-1.given.0.0 c.start-1.given.0.1.0
+word c = a_word _ _ _ _ (sym c.next_word.ensures ∙ c.start-1.given.1)
 
 loop-start-init : tie.Need-loop-start-init invariant-loop-start decreases-loop-start
 loop-start-init c = (refl, omega arith)
@@ -49,7 +49,7 @@ part-requires c κs = search rules
 returns-then-i-k : tie.Need-returns-then-i-k invariant-loop-start decreases-loop-start
 returns-then-i-k c =
     let passed = c.before.before in
-    c.part.ensures ∙ sym (passed.before.before.before.before.loop-start.invariant.0 ∙ here (word passed).first c.before.if-i-k.true)
+    c.part.ensures ∙ sym (passed.loop-start.invariant.0 ∙ here (word passed).first c.if-i-k.true)
 
 overflow_add-i : tie.Need-overflow_add-i invariant-loop-start decreases-loop-start
 overflow_add-i c = omega arith
@@ -58,7 +58,7 @@ loop-start-smaller : tie.Need-loop-start-smaller invariant-loop-start decreases-
 loop-start-smaller c = let f = word c.before in omega arith
 
 loop-start-preserved : tie.Need-loop-start-preserved invariant-loop-start decreases-loop-start
-loop-start-preserved c = (c.before.before.before.before.before.loop-start.invariant.0 ∙ further (word c.before).first (omega arith), omega arith)
+loop-start-preserved c = (c.loop-start.invariant.0 ∙ further (word c.before).first (omega arith), omega arith)
 
 enum_told-1 : tie.Need-enum_told-1 invariant-loop-start decreases-loop-start
 enum_told-1 c = search rules
@@ -69,8 +69,8 @@ slice_bounds-result-end c = search rules
 returns : tie.Need-returns invariant-loop-start decreases-loop-start
 returns c =
     let found = c.before.before.before in
-    let none = no_word _ _ (sym found.next_word.ensures ∙ c.before.enum_told-1.given.1) in
-    sym (found.before.loop-start.invariant.0 ∙ nowhere _ none)
+    let none = no_word _ _ (sym found.next_word.ensures ∙ c.enum_told-1.given.1) in
+    sym (found.loop-start.invariant.0 ∙ nowhere _ none)
 
 pub word_at_spec : {M : Type 1} → statement M
 word_at_spec =

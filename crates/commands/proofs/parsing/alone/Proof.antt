@@ -12,7 +12,7 @@ unless_faulty-requires : tie.Need-unless_faulty-requires
 unless_faulty-requires c κs = search rules
 
 returns : tie.Need-returns
-returns c = c.unless_faulty.ensures ∙ ap₂ unless c.before.are_words.ensures refl
+returns c = c.unless_faulty.ensures ∙ ap₂ unless c.are_words.ensures refl
 
 pub alone_spec : {M : Type 1} → statement M
 alone_spec = tie.close (tie.spec are_words-requires unless_faulty-requires returns)

@@ -19,7 +19,7 @@ unless_faulty-requires c κs = search rules
 returns : tie.Need-returns
 returns c =
     let x = c.before in
-    c.unless_faulty.ensures ∙ ap₂ unless x.before.are_numbers.ensures (ap At (to_z-of_z (record { sfits = x.narrow_at.type_inv }) ∙ x.narrow_at.ensures))
+    c.unless_faulty.ensures ∙ ap₂ unless x.are_numbers.ensures (ap At (to_z-of_z (record { sfits = x.narrow_at.type_inv }) ∙ x.narrow_at.ensures))
 
 pub at_spec : {M : Type 1} → statement M
 at_spec =

@@ -33,7 +33,7 @@ returns c =
     let knot = value.before in
     let number = knot.before in
     c.unless_faulty.ensures
-    ∙ ap₂ unless c.before.are_numbers.ensures
+    ∙ ap₂ unless c.are_numbers.ensures
     (points (to_z-of_z (record { sfits = number.wide_at.type_inv }) ∙ number.wide_at.ensures)
     (to_z-of_z (record { sfits = knot.narrow_at.type_inv }) ∙ knot.narrow_at.ensures) (to_z-of_z (record { sfits = value.narrow_at-2.type_inv }) ∙ value.narrow_at-2.ensures))
 

@@ -19,7 +19,7 @@ unless_faulty-requires c κs = search rules
 returns : tie.Need-returns
 returns c =
     let x = c.before in
-    c.unless_faulty.ensures ∙ ap₂ unless x.before.are_numbers.ensures (ap Drive (to_z-of_z (record { sfits = x.narrow_at.type_inv }) ∙ x.narrow_at.ensures))
+    c.unless_faulty.ensures ∙ ap₂ unless x.are_numbers.ensures (ap Drive (to_z-of_z (record { sfits = x.narrow_at.type_inv }) ∙ x.narrow_at.ensures))
 
 pub drive_spec : {M : Type 1} → statement M
 drive_spec =

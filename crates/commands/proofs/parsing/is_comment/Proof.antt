@@ -20,13 +20,13 @@ something [] h = absurd (omega arith)
 something (b ∷ bs) h = refl
 
 returns-then-line-eq0 : tie.Need-returns-then-line-eq0
-returns-then-line-eq0 c = nothing c.before.args.line.now c.if-line-eq0.true
+returns-then-line-eq0 c = nothing c.args.line.now c.if-line-eq0.true
 
 bounds-line-0 : tie.Need-bounds-line-0
 bounds-line-0 c = search rules
 
 returns : tie.Need-returns
-returns c = something c.before.before.args.line.now (omega arith)
+returns c = something c.args.line.now (omega arith)
 
 pub is_comment_spec : {M : Type 1} → statement M
 is_comment_spec = tie.close (tie.spec returns-then-line-eq0 bounds-line-0 returns)

@@ -15,18 +15,18 @@ use Rattle.commands.proofs.parsing.named.Tie as tie
 
 -- the name, the words after it, and the table of what they ask for
 abbrev name : tie.After-place → List ℕ
-name c = part_of c.before.before.before.before.args.line.now c.before.before.before.before.args.start c.before.before.before.before.args.end
+name c = part_of c.args.line.now c.args.start c.args.end
 
 abbrev words : tie.After-place → List (List ℕ)
-words c = words_of (drop c.before.before.before.before.args.end c.before.before.before.before.args.line.now)
+words c = words_of (drop c.args.end c.args.line.now)
 
 -- the place is that in the table
-among : (c : tie.After-place) → c.place.result ≡ place_of c.before.before.part-name.result.now (names_of (command_table []))
+among : (c : tie.After-place) → c.place.result ≡ place_of c.part-name.result.now (names_of (command_table []))
 unfolding words_after
 among c = c.place.ensures
 
 placed : (c : tie.After-place) → c.place.result ≡ place_of (name c) (names_of (command_table (words c)))
-placed c = among c ∙ ap (λ (w : List ℕ). place_of w (names_of (command_table []))) c.before.before.part-name.ensures
+placed c = among c ∙ ap (λ (w : List ℕ). place_of w (names_of (command_table []))) c.part-name.ensures
 
 -- an arm of the match is right if it answers what stands at its place
 arm : (c : tie.After-place) {n : ℕ} {command : Command} → c.place.result ≡ n
@@ -73,37 +73,37 @@ unit-requires : tie.Need-unit-requires
 unit-requires c κs = search rules
 
 returns-in-0 : tie.Need-returns-in-0
-returns-in-0 c = arm c.before.before c.before.in_default.keys1 c.set.ensures
+returns-in-0 c = arm c.before.before c.in_default.keys1 c.set.ensures
 
 returns-in-1 : tie.Need-returns-in-1
-returns-in-1 c = arm c.before.before c.before.in_default.keys2 c.set-in-1.ensures
+returns-in-1 c = arm c.before.before c.in_default.keys2 c.set-in-1.ensures
 
 returns-in-2 : tie.Need-returns-in-2
-returns-in-2 c = arm c.before.before c.before.in_default.keys3 c.set-in-2.ensures
+returns-in-2 c = arm c.before.before c.in_default.keys3 c.set-in-2.ensures
 
 returns-in-3 : tie.Need-returns-in-3
-returns-in-3 c = arm c.before.before c.before.in_default.keys4 c.show.ensures
+returns-in-3 c = arm c.before.before c.in_default.keys4 c.show.ensures
 
 returns-in-4 : tie.Need-returns-in-4
-returns-in-4 c = arm c.before.before c.before.in_default.keys5 c.piece.ensures
+returns-in-4 c = arm c.before.before c.in_default.keys5 c.piece.ensures
 
 returns-in-5 : tie.Need-returns-in-5
-returns-in-5 c = arm c.before.before c.before.in_default.keys6 c.alone.ensures
+returns-in-5 c = arm c.before.before c.in_default.keys6 c.alone.ensures
 
 returns-in-6 : tie.Need-returns-in-6
-returns-in-6 c = arm c.before.before c.before.in_default.keys7 c.alone-in-6.ensures
+returns-in-6 c = arm c.before.before c.in_default.keys7 c.alone-in-6.ensures
 
 returns-in-7 : tie.Need-returns-in-7
-returns-in-7 c = arm c.before.before c.before.in_default.keys8 c.at.ensures
+returns-in-7 c = arm c.before.before c.in_default.keys8 c.at.ensures
 
 returns-in-8 : tie.Need-returns-in-8
-returns-in-8 c = arm c.before.before c.before.in_default.keys9 c.drive.ensures
+returns-in-8 c = arm c.before.before c.in_default.keys9 c.drive.ensures
 
 returns-in-9 : tie.Need-returns-in-9
-returns-in-9 c = arm c.before.before c.before.in_default.keys10 c.change.ensures
+returns-in-9 c = arm c.before.before c.in_default.keys10 c.change.ensures
 
 returns-in-10 : tie.Need-returns-in-10
-returns-in-10 c = arm c.before.before c.before.in_default.keys11 c.unit.ensures
+returns-in-10 c = arm c.before.before c.in_default.keys11 c.unit.ensures
 
 returns-in_default : tie.Need-returns-in_default
 returns-in_default c = none_chosen (command_table (words c.before)) (Wrong NoCommand) (name c.before) (placed c.before) c.in_default.rest

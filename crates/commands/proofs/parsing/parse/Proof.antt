@@ -26,7 +26,7 @@ is_comment-requires : tie.Need-is_comment-requires
 is_comment-requires c κs = search rules
 
 returns-then-is_comment : tie.Need-returns-then-is_comment
-returns-then-is_comment c = not_long c.before.before.before.before.args.line.now c.before.before.if-line-gt-LONGEST.false (sym c.if-is_comment.true ∙ c.before.is_comment.ensures) refl
+returns-then-is_comment c = not_long c.args.line.now c.if-line-gt-LONGEST.false (sym c.if-is_comment.true ∙ c.is_comment.ensures) refl
 
 next_word-requires : tie.Need-next_word-requires
 next_word-requires c κs = search rules
@@ -44,15 +44,15 @@ returns-in-At : tie.Need-returns-in-At
 returns-in-At c =
     let found = c.before.before.before.before in
     let asked = found.before in
-    let word = a_word _ _ _ _ (sym found.next_word.ensures ∙ c.before.before.start-1.given.1) in
-    not_long asked.before.before.before.before.args.line.now asked.before.before.if-line-gt-LONGEST.false (sym asked.if-is_comment.false ∙ asked.before.is_comment.ensures)
+    let word = a_word _ _ _ _ (sym found.next_word.ensures ∙ c.start-1.given.1) in
+    not_long asked.args.line.now asked.if-line-gt-LONGEST.false (sym asked.if-is_comment.false ∙ asked.is_comment.ensures)
     (c.named.ensures ∙ ap by_words (sym word.first))
 
 returns-in-Nothing : tie.Need-returns-in-Nothing
 returns-in-Nothing c =
     let found = c.before.before in
     let asked = found.before in
-    not_long asked.before.before.before.before.args.line.now asked.before.before.if-line-gt-LONGEST.false (sym asked.if-is_comment.false ∙ asked.before.is_comment.ensures)
+    not_long asked.args.line.now asked.if-line-gt-LONGEST.false (sym asked.if-is_comment.false ∙ asked.is_comment.ensures)
     (ap by_words (sym (no_word _ _ (sym found.next_word.ensures ∙ c.enum_told-1.given.1))))
 
 pub parse_spec : {M : Type 1} → statement M

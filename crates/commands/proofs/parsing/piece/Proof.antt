@@ -37,7 +37,7 @@ returns c =
     let z = m.before in
     let h = z.before in
     c.unless_faulty.ensures
-    ∙ ap₂ unless c.before.are_numbers.ensures
+    ∙ ap₂ unless c.are_numbers.ensures
     (pieces (to_z-of_z (record { sfits = h.wide_at.type_inv }) ∙ h.wide_at.ensures) (to_z-of_z (record { sfits = z.wide_at-2.type_inv }) ∙ z.wide_at-2.ensures)
     (to_z-of_z (record { sfits = m.narrow_at.type_inv }) ∙ m.narrow_at.ensures) (to_z-of_z (record { sfits = n.narrow_at-2.type_inv }) ∙ n.narrow_at-2.ensures))
 

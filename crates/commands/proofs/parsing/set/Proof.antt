@@ -11,7 +11,7 @@ count-requires c κs = search rules
 
 returns-then-count-gt-ROOM : tie.Need-returns-then-count-gt-ROOM
 unfolding unless is_list
-returns-then-count-gt-ROOM c = rw (← c.before.count.ensures, lt-ltb _ _ c.if-count-gt-ROOM.true)
+returns-then-count-gt-ROOM c = rw (← c.count.ensures, lt-ltb _ _ c.if-count-gt-ROOM.true)
 
 first_fault-requires : tie.Need-first_fault-requires
 first_fault-requires c κs = search rules
@@ -23,7 +23,7 @@ returns : tie.Need-returns
 unfolding is_list
 returns c =
     let asked = c.before.before in
-    c.unless_faulty.ensures ∙ rw (c.before.first_fault.ensures, ← asked.before.count.ensures, le-ltb _ _ asked.if-count-gt-ROOM.false)
+    c.unless_faulty.ensures ∙ rw (c.first_fault.ensures, ← asked.count.ensures, le-ltb _ _ asked.if-count-gt-ROOM.false)
 
 pub set_spec : {M : Type 1} → statement M
 set_spec =

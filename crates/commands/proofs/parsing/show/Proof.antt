@@ -21,7 +21,7 @@ returns : tie.Need-returns
 returns c =
     let x = c.before in
     let word = x.before in
-    c.unless_faulty.ensures ∙ ap₂ unless word.before.are_words.ensures (x.shown.ensures ∙ ap shown_of word.word_at.ensures)
+    c.unless_faulty.ensures ∙ ap₂ unless word.are_words.ensures (x.shown.ensures ∙ ap shown_of word.word_at.ensures)
 
 pub show_spec : {M : Type 1} → statement M
 show_spec =

@@ -8,7 +8,7 @@ use Rattle.commands.proofs.parsing.shown.Statement.{statement}
 use Rattle.commands.proofs.parsing.shown.Tie as tie
 
 -- the place is that in the table
-placed : (c : tie.After-place) → c.place.result ≡ place_of c.before.before.before.args.name.now (names_of shown_table)
+placed : (c : tie.After-place) → c.place.result ≡ place_of c.args.name.now (names_of shown_table)
 unfolding words_after
 placed c = c.place.ensures
 

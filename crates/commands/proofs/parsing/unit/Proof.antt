@@ -27,7 +27,7 @@ returns c =
     let counted = unit.before in
     let said = counted.before in
     c.unless_faulty.ensures
-    ∙ ap₂ unless counted.are_words.ensures (unit.unit_said.ensures ∙ ap unit_said (said.whole-said.ensures ∙ ap number_of said.before.word_at.ensures))
+    ∙ ap₂ unless counted.are_words.ensures (unit.unit_said.ensures ∙ ap unit_said (said.whole-said.ensures ∙ ap number_of said.word_at.ensures))
 
 pub unit_spec : {M : Type 1} → statement M
 unit_spec =

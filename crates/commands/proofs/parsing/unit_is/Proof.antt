@@ -44,7 +44,7 @@ itself : (c : tie.Start) → unit_is (number c) ≡ unit_is c.args.n
 itself c = ap unit_is (to_z-of_z c.ranges.n)
 
 within : (c : tie.Else-n-gt-MOST) → Unsigned (number c.before.before)
-within c = unsigned (number c.before.before) c.before.if-n-lt0.false c.if-n-gt-MOST.false
+within c = unsigned (number c.before.before) c.if-n-lt0.false c.if-n-gt-MOST.false
 
 returns-then-n-lt0 : tie.Need-returns-then-n-lt0
 returns-then-n-lt0 c = negative (number c.before) c.if-n-lt0.true ∙ itself c.before

@@ -22,7 +22,7 @@ enum_told-in-TooLarge c = search rules
 
 returns-in-Is : tie.Need-returns-in-Is
 returns-in-Is c =
-    let said = c.before.before.said-1 in
+    let said = c.said-1 in
     let fits : SFits w64 said.given.0.0 = search rules in
     c.unit_is.ensures ∙ ap unit_is (to_z-of_z fits) ∙ sym (ap unit_said said.given.1)
 

@@ -59,14 +59,14 @@ module _ (c : tie.After-coefficients-cubic) where
 numerator-above-requires : tie.Need-numerator-above-requires
 numerator-above-requires c κs =
     let p = c.before.before.before in
-    let Γ = with_cubic p in record { small = as_coded₃ Γ Small (search arguments depth 30 fits 9000) tt (small p); width_within = as_coded₁ Γ WidthWithin (search arguments depth 30 fits 9000) tt p.before.requires.width; between = as_coded₂ Γ (Between (pos 0)) (search arguments depth 30 fits 9000) tt p.before.requires.place }
+    let Γ = with_cubic p in record { small = as_coded₃ Γ Small (search arguments depth 30 fits 9000) tt (small p); width_within = as_coded₁ Γ WidthWithin (search arguments depth 30 fits 9000) tt p.requires.width; between = as_coded₂ Γ (Between (pos 0)) (search arguments depth 30 fits 9000) tt p.requires.place }
 
 -- ---- the numerator
 
-is_cubic : (c : tie.After-numerator-above) → let s = c.before.before.before.before.before.args in c.numerator-above.result ≡ numerator s.unit s.h s.z s.m s.n s.t
+is_cubic : (c : tie.After-numerator-above) → let s = c.args in c.numerator-above.result ≡ numerator s.unit s.h s.z s.m s.n s.t
 is_cubic c =
     let p = c.before.before.before.before in
-    c.numerator-above.ensures ∙ plain_is {Γ = with_cubic p} (search code depth 30 fits 9000) tt ∙ by_coefficients (are p) p.before.args.t
+    c.numerator-above.ensures ∙ plain_is {Γ = with_cubic p} (search code depth 30 fits 9000) tt ∙ by_coefficients (are p) p.args.t
 
 -- nowhere larger than at the right end, where it is Z·h³
 cubic_within : (c : tie.After-numerator-above) → Within 288230376151711744 c.numerator-above.result
@@ -91,14 +91,14 @@ nearest_div-requires c κs = search rules
 
 -- what was divided by what
 quotient : (c : tie.After-nearest_div)
-    → let s = c.before.before.before.before.before.before.args in Rounded c.before.numerator-above.result (denominator s.unit s.h) c.nearest_div.result
+    → let s = c.args in Rounded c.numerator-above.result (denominator s.unit s.h) c.nearest_div.result
 quotient c =
     let s = c.before.before.before.before.before.before in
-    plainly₂ (known c.before.numerator-above.result _ (cubic_within c.before) ∷ given s) (λ (n d : ℤ). Rounded n d c.nearest_div.result) c.nearest_div.ensures (search arguments depth 30 fits 9000) tt
+    plainly₂ (known c.numerator-above.result _ (cubic_within c.before) ∷ given s) (λ (n d : ℤ). Rounded n d c.nearest_div.result) c.nearest_div.ensures (search arguments depth 30 fits 9000) tt
 
 returns : tie.Need-returns
 returns c =
-    let s = c.before.before.before.before.before.before.args in
+    let s = c.args in
     returned w64 c.nearest_div.type_inv (one_rounded (quotient c) (rounded_is _ _) ∙ ap (λ (v : ℤ). nearest_of v (denominator s.unit s.h)) (is_cubic c.before))
 
 pub risen_spec : {M : Type 1} → statement M

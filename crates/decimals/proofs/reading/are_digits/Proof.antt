@@ -27,7 +27,7 @@ is_digit-requires c κs = search rules
 returns-then-not-is_digit : tie.Need-returns-then-not-is_digit invariant-loop-i decreases-loop-i
 returns-then-not-is_digit c =
     let here = c.before.before.before.before in
-    sym (here.loop-i.invariant ∙ digits_stop _ _ c.before.before.before.loop-i-test.true (sym c.before.is_digit.ensures ∙ not-true _ c.if-not-is_digit.true))
+    sym (here.loop-i.invariant ∙ digits_stop _ _ c.loop-i-test.true (sym c.is_digit.ensures ∙ not-true _ c.if-not-is_digit.true))
 
 overflow_add-i : tie.Need-overflow_add-i invariant-loop-i decreases-loop-i
 overflow_add-i c = search rules
@@ -38,10 +38,10 @@ loop-i-smaller c = search rules
 loop-i-preserved : tie.Need-loop-i-preserved invariant-loop-i decreases-loop-i
 loop-i-preserved c =
     let here = c.before.before.before.before in
-    here.loop-i.invariant ∙ digits_on _ _ c.before.before.before.loop-i-test.true (sym c.before.is_digit.ensures ∙ not-false _ c.if-not-is_digit.false)
+    here.loop-i.invariant ∙ digits_on _ _ c.loop-i-test.true (sym c.is_digit.ensures ∙ not-false _ c.if-not-is_digit.false)
 
 returns : tie.Need-returns invariant-loop-i decreases-loop-i
-returns c = sym (c.before.loop-i.invariant ∙ digits_out _ _ c.loop-i-test.false)
+returns c = sym (c.loop-i.invariant ∙ digits_out _ _ c.loop-i-test.false)
 
 pub are_digits_spec : {M : Type 1} → statement M
 are_digits_spec =

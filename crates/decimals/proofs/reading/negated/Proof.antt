@@ -20,8 +20,8 @@ opposite zero h = absurd (omega arith)
 opposite (suc n) h = simp unary_clauses
 
 -- one less than the number, taken from -1
-less : (c : tie.Else-n-eq0) → negsuc 0 -ℤ to_z w64 (c.before.args.n - 1) ≡ negsuc (c.before.args.n - 1)
-less c = ap (λ (z : ℤ). negsuc 0 -ℤ z) (to_z_pos w64 {n = c.before.args.n - 1} (omega arith)) ∙ from_minus_one _
+less : (c : tie.Else-n-eq0) → negsuc 0 -ℤ to_z w64 (c.args.n - 1) ≡ negsuc (c.args.n - 1)
+less c = ap (λ (z : ℤ). negsuc 0 -ℤ z) (to_z_pos w64 {n = c.args.n - 1} (omega arith)) ∙ from_minus_one _
 
 returns-then-n-eq0 : tie.Need-returns-then-n-eq0
 returns-then-n-eq0 c = rw c.if-n-eq0.true
@@ -36,7 +36,7 @@ overflow_sub-result-2 : tie.Need-overflow_sub-result-2
 overflow_sub-result-2 c = subst⁻¹ (SFits w64) (less c) (record { sfits = omega arith })
 
 returns : tie.Need-returns
-returns c = to_z-of_z (overflow_sub-result-2 c) ∙ less c ∙ opposite c.before.args.n (omega arith)
+returns c = to_z-of_z (overflow_sub-result-2 c) ∙ less c ∙ opposite c.args.n (omega arith)
 
 pub negated_spec : {M : Type 1} → statement M
 negated_spec = tie.close (tie.spec returns-then-n-eq0 overflow_sub-result overflow_cast-result overflow_sub-result-2 returns)

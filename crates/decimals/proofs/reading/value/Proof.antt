@@ -22,21 +22,21 @@ decreases-loop-i text from most sum₀ i₀ sum i = length text - i
 
 -- the byte that a turn reads is a digit
 abbrev text : tie.In-loop-i invariant-loop-i decreases-loop-i → List ℕ
-text c = c.before.before.args.text.now
+text c = c.args.text.now
 
 abbrev byte : tie.In-loop-i invariant-loop-i decreases-loop-i → ℕ
-byte c = get_or (text c) c.before.loop-i.i 0
+byte c = get_or (text c) c.loop-i.i 0
 
 digit : (c : tie.In-loop-i invariant-loop-i decreases-loop-i) → is_digit (byte c) ≡ true
-digit c = first_digit _ _ c.loop-i-test.true c.before.loop-i.invariant.1
+digit c = first_digit _ _ c.loop-i-test.true c.loop-i.invariant.1
 
 bounds : (c : tie.In-loop-i invariant-loop-i decreases-loop-i) → (48 ≤ byte c) × (byte c ≤ 57)
 bounds c = digit_bounds (byte c) (digit c)
 
 -- the value once the byte is read, before the digits that follow
 more : (c : tie.In-loop-i invariant-loop-i decreases-loop-i)
-    → natural 0 (drop c.before.before.args.from (text c)) ≡ natural (c.before.loop-i.sum * 10 + (byte c - 48)) (drop (c.before.loop-i.i + 1) (text c))
-more c = c.before.loop-i.invariant.2 ∙ natural_on _ _ c.loop-i-test.true _
+    → natural 0 (drop c.args.from (text c)) ≡ natural (c.loop-i.sum * 10 + (byte c - 48)) (drop (c.loop-i.i + 1) (text c))
+more c = c.loop-i.invariant.2 ∙ natural_on _ _ c.loop-i-test.true _
 
 loop-i-init : tie.Need-loop-i-init invariant-loop-i decreases-loop-i
 loop-i-init c = (omega arith, c.requires.text_value, refl)
@@ -57,9 +57,9 @@ returns-then-most-digit : tie.Need-returns-then-most-digit invariant-loop-i decr
 returns-then-most-digit c =
     let here = c.before.before in
     let d = bounds here in
-    let sum = here.before.loop-i.sum * 10 + (byte here - 48) in
-    let rest = drop (here.before.loop-i.i + 1) (text here) in
-    rw (more here, lt-leb (natural sum rest) here.before.before.args.most (omega (arith, natural_least sum rest)))
+    let sum = here.loop-i.sum * 10 + (byte here - 48) in
+    let rest = drop (here.loop-i.i + 1) (text here) in
+    rw (more here, lt-leb (natural sum rest) here.args.most (omega (arith, natural_least sum rest)))
 
 overflow_mul-sum : tie.Need-overflow_mul-sum invariant-loop-i decreases-loop-i
 overflow_mul-sum c = let d = bounds c.before.before in omega arith
@@ -77,10 +77,10 @@ loop-i-preserved : tie.Need-loop-i-preserved invariant-loop-i decreases-loop-i
 loop-i-preserved c =
     let here = c.before.before in
     let d = bounds here in
-    (omega arith, sym (digits_on _ _ here.loop-i-test.true (digit here)) ∙ here.before.loop-i.invariant.1, more here)
+    (omega arith, sym (digits_on _ _ here.loop-i-test.true (digit here)) ∙ here.loop-i.invariant.1, more here)
 
 returns : tie.Need-returns invariant-loop-i decreases-loop-i
-returns c = rw (c.before.loop-i.invariant.2, natural_out _ _ c.before.loop-i.sum c.loop-i-test.false, le-leb _ _ c.before.loop-i.invariant.0)
+returns c = rw (c.loop-i.invariant.2, natural_out _ _ c.loop-i.sum c.loop-i-test.false, le-leb _ _ c.loop-i.invariant.0)
 
 pub value_spec : {M : Type 1} → statement M
 value_spec =

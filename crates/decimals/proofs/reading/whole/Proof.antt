@@ -17,20 +17,20 @@ use Rattle.decimals.proofs.reading.whole.Tie as tie
 
 -- the text, where the digits have been read
 abbrev after_sign : tie.After-digits → List ℕ
-after_sign c = c.before.before.before.before.before.args.text.now
+after_sign c = c.args.text.now
 
 abbrev with_none : tie.After-digits-else-text-eq45 → List ℕ
-with_none c = c.before.before.before.before.before.args.text.now
+with_none c = c.args.text.now
 
 -- what the digits after a `-` say, and what they say without one
 negative : (c : tie.After-digits) {m : Magnitude} → c.digits.result ≡ m → spoken minus m ≡ number_of (after_sign c)
-negative c e = minus_text (after_sign c) _ (omega arith) c.before.if-text-eq45.true (sym e ∙ c.digits.ensures)
+negative c e = minus_text (after_sign c) _ (omega arith) c.if-text-eq45.true (sym e ∙ c.digits.ensures)
 
 positive : (c : tie.After-digits-else-text-eq45) {m : Magnitude} → c.digits-else-text-eq45.result ≡ m → spoken pos m ≡ number_of (with_none c)
-positive c e = plain_text (with_none c) _ (omega arith) c.before.if-text-eq45.false (sym e ∙ c.digits-else-text-eq45.ensures)
+positive c e = plain_text (with_none c) _ (omega arith) c.if-text-eq45.false (sym e ∙ c.digits-else-text-eq45.ensures)
 
 returns-then-text-eq0 : tie.Need-returns-then-text-eq0
-returns-then-text-eq0 c = empty_text c.before.before.args.text.now c.if-text-eq0.true
+returns-then-text-eq0 c = empty_text c.args.text.now c.if-text-eq0.true
 
 bounds-text-0 : tie.Need-bounds-text-0
 bounds-text-0 c = search rules
@@ -44,7 +44,7 @@ enum_known-n c = search rules
 negated-requires : tie.Need-negated-requires
 negated-requires c κs =
     let read = c.before.before.before in
-    held 9223372036854775808 (digits_of (drop 1 (after_sign read))) _ (sym c.before.n-1.given.1 ∙ read.digits.ensures)
+    held 9223372036854775808 (digits_of (drop 1 (after_sign read))) _ (sym c.n-1.given.1 ∙ read.digits.ensures)
 
 enum_told-1 : tie.Need-enum_told-1
 enum_told-1 c = search rules
@@ -61,7 +61,7 @@ enum_known-n-in-Is-digits-2 c = search rules
 overflow_cast-result : tie.Need-overflow_cast-result
 overflow_cast-result c =
     let read = c.before.before.before in
-    let small = held 9223372036854775807 (digits_of (drop 0 (with_none read))) _ (sym c.before.n-in-Is-digits-2-1.given.1 ∙ read.digits-else-text-eq45.ensures) in
+    let small = held 9223372036854775807 (digits_of (drop 0 (with_none read))) _ (sym c.n-in-Is-digits-2-1.given.1 ∙ read.digits-else-text-eq45.ensures) in
     record { sfits = lt_of_le_of_lt small (omega arith) }
 
 enum_told-in-NotDecimal-digits : tie.Need-enum_told-in-NotDecimal-digits
@@ -72,7 +72,7 @@ enum_told-in-TooLarge-digits c = search rules
 
 returns-in-Is : tie.Need-returns-in-Is
 returns-in-Is c =
-    ap Is (to_z-of_z (record { sfits = c.negated.type_inv }) ∙ c.negated.ensures) ∙ negative c.before.before.before.before c.before.before.n-1.given.1
+    ap Is (to_z-of_z (record { sfits = c.negated.type_inv }) ∙ c.negated.ensures) ∙ negative c.before.before.before.before c.n-1.given.1
 
 returns-in-NotDecimal : tie.Need-returns-in-NotDecimal
 returns-in-NotDecimal c = negative c.before.before c.enum_told-1.given.1
@@ -81,7 +81,7 @@ returns-in-TooLarge : tie.Need-returns-in-TooLarge
 returns-in-TooLarge c = negative c.before.before c.enum_told-in-TooLarge-1.given.1
 
 returns-in-Is-digits : tie.Need-returns-in-Is-digits
-returns-in-Is-digits c = ap Is (to_z-of_z (overflow_cast-result c)) ∙ positive c.before.before.before c.before.n-in-Is-digits-2-1.given.1
+returns-in-Is-digits c = ap Is (to_z-of_z (overflow_cast-result c)) ∙ positive c.before.before.before c.n-in-Is-digits-2-1.given.1
 
 returns-in-NotDecimal-digits : tie.Need-returns-in-NotDecimal-digits
 returns-in-NotDecimal-digits c = positive c.before.before c.enum_told-in-NotDecimal-digits-1.given.1

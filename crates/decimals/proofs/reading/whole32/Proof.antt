@@ -11,8 +11,8 @@ use Rattle.decimals.proofs.reading.whole32.Statement.{statement}
 use Rattle.decimals.proofs.reading.whole32.Tie as tie
 
 -- the number of 64 bits that was read, as one of 32
-same : (c : tie.After-whole) {m : Number} → c.whole.result ≡ m → narrowed m ≡ number32_of c.before.before.args.text.now
-same c e = ap narrowed (sym e ∙ c.whole.ensures) ∙ narrow_text c.before.before.args.text.now
+same : (c : tie.After-whole) {m : Number} → c.whole.result ≡ m → narrowed m ≡ number32_of c.args.text.now
+same c e = ap narrowed (sym e ∙ c.whole.ensures) ∙ narrow_text c.args.text.now
 
 whole-requires : tie.Need-whole-requires
 whole-requires c κs = search rules
@@ -31,8 +31,8 @@ enum_told-in-TooLarge c = search rules
 
 returns-in-Is : tie.Need-returns-in-Is
 returns-in-Is c =
-    let fits : SFits w64 c.before.before.n-1.given.0.0 = search rules in
-    c.narrow.ensures ∙ ap fit32 (to_z-of_z fits) ∙ same c.before.before.before.before c.before.before.n-1.given.1
+    let fits : SFits w64 c.n-1.given.0.0 = search rules in
+    c.narrow.ensures ∙ ap fit32 (to_z-of_z fits) ∙ same c.before.before.before.before c.n-1.given.1
 
 returns-in-NotDecimal : tie.Need-returns-in-NotDecimal
 returns-in-NotDecimal c = same c.before.before c.enum_told-1.given.1

@@ -34,15 +34,15 @@ shape_of-into-then-n-lt0 c = search rules
 
 returns-then-n-lt0 : tie.Need-returns-then-n-lt0
 returns-then-n-lt0 c =
-    let start = c.before.before.before.before.before.before.before.before.before.before.before.before in
+    let start = c.before.before.before.before.before.before.before.before.before.before.before.before.before in
     let n = start.args.n in
-    let r = c.before.before.append_natural in
-    let size = c.before.before.before.magnitude.ensures ∙ ap nat_abs (itself start) in
-    let minus = subst (λ (z : ℤ). lt_z z (pos 0) ≡ true) (itself start) c.before.before.before.before.before.before.before.before.before.before.if-n-lt0.true in
+    let r = c.append_natural in
+    let size = c.magnitude.ensures ∙ ap nat_abs (itself start) in
+    let minus = subst (λ (z : ℤ). lt_z z (pos 0) ≡ true) (itself start) c.if-n-lt0.true in
     subst (λ (l : List ℕ). Appended start.args.into.now start.args.held l r.new.0 r.result)
     (ap (λ (k : ℕ). 45 ∷ decimal_of k) size ∙ negative_text n minus)
-    (both {c = r.new.0} {s = r.result} {n = decimal_of c.before.before.before.magnitude.result}
-    c.before.before.before.before.before.before.before.append-signed.ensures r.ensures)
+    (both {c = r.new.0} {s = r.result} {n = decimal_of c.magnitude.result}
+    c.append-signed.ensures r.ensures)
 
 magnitude-requires-2 : tie.Need-magnitude-requires-2
 magnitude-requires-2 c κs = search rules
@@ -57,9 +57,9 @@ returns : tie.Need-returns
 returns c =
     let start = c.before.before.before.before.before.before.before in
     let n = start.args.n in
-    let r = c.before.before.append_natural-2 in
-    let size = c.before.before.before.magnitude-2.ensures ∙ ap nat_abs (itself start) in
-    let plain = subst (λ (z : ℤ). lt_z z (pos 0) ≡ false) (itself start) c.before.before.before.before.before.if-n-lt0.false in
+    let r = c.append_natural-2 in
+    let size = c.magnitude-2.ensures ∙ ap nat_abs (itself start) in
+    let plain = subst (λ (z : ℤ). lt_z z (pos 0) ≡ false) (itself start) c.if-n-lt0.false in
     subst (λ (l : List ℕ). Appended start.args.into.now start.args.held l r.new.0 r.result)
     (ap decimal_of size ∙ positive_text n plain)
     r.ensures

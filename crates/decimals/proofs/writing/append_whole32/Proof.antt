@@ -16,7 +16,7 @@ wide s = subst⁻¹ (SFits w64) (to_z-of_z s.ranges.n) (sfits_widen tt s.ranges.
 returns : tie.Need-returns
 returns c =
     let s = c.before.before.before.before.before in
-    let r = c.before.before.append_whole in
+    let r = c.append_whole in
     subst (λ (n : ℤ). Appended s.args.into.now s.args.held (text_of n) r.new.0 r.result) (to_z-of_z (wide s) ∙ to_z-of_z s.ranges.n) r.ensures
 
 overflow_cast-n : tie.Need-overflow_cast-n

@@ -27,16 +27,16 @@ itself c = to_z-of_z c.ranges.n
 bound : (c : tie.Start) → nat_abs c.args.n ≤ 9223372036854775808
 bound c = nat_abs-le c.args.n c.ranges.n.sfits
 
-less : (c : tie.Then-n-lt0) → (negsuc 0 -ℤ to_z w64 (of_z w64 c.before.args.n) ≡ pos (nat_abs c.before.args.n - 1)) × (0 < nat_abs c.before.args.n)
+less : (c : tie.Then-n-lt0) → (negsuc 0 -ℤ to_z w64 (of_z w64 c.args.n) ≡ pos (nat_abs c.args.n - 1)) × (0 < nat_abs c.args.n)
 less c =
-    let below = from_minus_one c.before.args.n (subst (λ (z : ℤ). lt_z z (pos 0) ≡ true) (itself c.before) c.if-n-lt0.true) in
+    let below = from_minus_one c.args.n (subst (λ (z : ℤ). lt_z z (pos 0) ≡ true) (itself c.before) c.if-n-lt0.true) in
     (ap (λ (z : ℤ). negsuc 0 -ℤ z) (itself c.before) ∙ below.0, below.1)
 
 overflow_sub-result : tie.Need-overflow_sub-result
 overflow_sub-result c = subst⁻¹ (SFits w64) (less c).0 (record { sfits = omega (arith, bound c.before, (less c).1) })
 
 -- the difference, behind its bits
-made : (c : tie.Then-n-lt0) → to_z w64 (of_z w64 (negsuc 0 -ℤ to_z w64 (of_z w64 c.before.args.n))) ≡ pos (nat_abs c.before.args.n - 1)
+made : (c : tie.Then-n-lt0) → to_z w64 (of_z w64 (negsuc 0 -ℤ to_z w64 (of_z w64 c.args.n))) ≡ pos (nat_abs c.args.n - 1)
 made c = to_z-of_z (overflow_sub-result c) ∙ (less c).0
 
 overflow_cast-result : tie.Need-overflow_cast-result
@@ -47,11 +47,11 @@ overflow_add-result c = subst⁻¹ (λ (z : ℤ). Fits w64 (nat_abs z + 1)) (mad
 
 returns-then-n-lt0 : tie.Need-returns-then-n-lt0
 returns-then-n-lt0 c =
-    let one_more : nat_abs c.before.args.n - 1 + 1 ≡ nat_abs c.before.args.n = omega (arith, (less c).1) in
+    let one_more : nat_abs c.args.n - 1 + 1 ≡ nat_abs c.args.n = omega (arith, (less c).1) in
     ap (λ (z : ℤ). nat_abs z + 1) (made c) ∙ one_more
 
 overflow_cast-result-2 : tie.Need-overflow_cast-result-2
-overflow_cast-result-2 c = fits_natural c.before.args.n c.before.ranges.n c.if-n-lt0.false
+overflow_cast-result-2 c = fits_natural c.args.n c.ranges.n c.if-n-lt0.false
 
 returns : tie.Need-returns
 returns c = search rules

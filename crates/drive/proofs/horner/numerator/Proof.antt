@@ -24,7 +24,7 @@ module _ {n : ℤ} (w : Within (2 ^ 53) n) where
 
 returns : tie.Need-returns
 returns c =
-    let within = c.before.before.before.before.before.requires in
+    let within = c.requires in
     let t = cast within.place in
     let h = cast within.width in
     let upper = whole_sum binary64 (whole_product binary64 (cast within.three) t within.three_t) (whole_product binary64 (cast within.two) h within.two_h) within.upper in
@@ -33,19 +33,19 @@ returns c =
     settled binary64 last zero_in_code within.last
 
 int_to_float-place : tie.Need-int_to_float-place
-int_to_float-place c = may c.before.requires.place
+int_to_float-place c = may c.requires.place
 
 int_to_float-width : tie.Need-int_to_float-width
-int_to_float-width c = may c.before.before.requires.width
+int_to_float-width c = may c.requires.width
 
 int_to_float-result : tie.Need-int_to_float-result
-int_to_float-result c = may c.before.before.before.requires.three
+int_to_float-result c = may c.requires.three
 
 int_to_float-result-2 : tie.Need-int_to_float-result-2
-int_to_float-result-2 c = may c.before.before.before.before.requires.two
+int_to_float-result-2 c = may c.requires.two
 
 int_to_float-result-3 : tie.Need-int_to_float-result-3
-int_to_float-result-3 c = may c.before.before.before.before.before.requires.one
+int_to_float-result-3 c = may c.requires.one
 
 pub numerator_spec : {M : Type 1} → statement M
 numerator_spec =

@@ -8,7 +8,7 @@ evaluate-requires : tie.Need-evaluate-requires
 evaluate-requires c κs = search rules
 
 returns : tie.Need-returns
-returns c = rw (to_z-of_z c.before.ranges.position) at c.evaluate.ensures
+returns c = rw (to_z-of_z c.ranges.position) at c.evaluate.ensures
 
 pub negwafir_evaluate_spec : {M : Type 1} → statement M
 negwafir_evaluate_spec = tie.close (tie.spec evaluate-requires returns)

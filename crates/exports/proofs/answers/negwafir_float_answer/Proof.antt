@@ -29,16 +29,16 @@ enum_known-answer-in-Move-1 c = search rules
 
 -- what `float_answer` says of the position as the code has it holds of the position itself
 said : (c : tie.After-float_answer-driven)
-    → let s = c.before.args in
+    → let s = c.args in
     let r = c.float_answer-driven.result in
-    Driving (table s.s s.knots.now s.values.now s.slopes.now) s.position r.refusal-1.number r.refusal-1.place (told_of r.answer-1)
-said c = rw (to_z-of_z c.before.ranges.position) at c.float_answer-driven.ensures
+    Driving (table s.s s.knots.now s.values.now s.slopes.now) s.position r.refusal.number r.refusal.place (told_of r.answer)
+said c = rw (to_z-of_z c.ranges.position) at c.float_answer-driven.ensures
 
 returns-in-Dwell : tie.Need-returns-in-Dwell
-returns-in-Dwell c = dwells {level = c.before.answer-1.given.0.0} (rw c.before.answer-1.given.1 at (said c.before.before.before.before)) zero_in_code one_in_code
+returns-in-Dwell c = dwells {level = c.answer-1.given.0.0} (rw c.answer-1.given.1 at (said c.before.before.before.before)) zero_in_code one_in_code
 
 returns-in-Move : tie.Need-returns-in-Move
-returns-in-Move c = moves (rw c.before.answer-in-Move-1.given.1 at (said c.before.before.before.before))
+returns-in-Move c = moves (rw c.answer-in-Move-1.given.1 at (said c.before.before.before.before))
 
 pub negwafir_float_answer_spec : {M : Type 1} → statement M
 negwafir_float_answer_spec =

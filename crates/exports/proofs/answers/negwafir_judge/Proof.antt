@@ -25,8 +25,8 @@ enum_known-refusal : tie.Need-enum_known-refusal
 enum_known-refusal c = search rules
 
 -- what `judge` says of its arguments as the code has them holds of the numbers themselves
-said : (c : tie.After-judge) → let s = c.before.args in Judged s.s s.h s.z s.m s.n (ruling_of c.judge.result)
-said c = let s = c.before.ranges in rw (to_z-of_z s.h, to_z-of_z s.z, to_z-of_z s.m, to_z-of_z s.n) at c.judge.ensures
+said : (c : tie.After-judge) → let s = c.args in Judged s.s s.h s.z s.m s.n (ruling_of c.judge.result)
+said c = let s = c.ranges in rw (to_z-of_z s.h, to_z-of_z s.z, to_z-of_z s.m, to_z-of_z s.n) at c.judge.ensures
 
 returns-in-Rising : tie.Need-returns-in-Rising
 returns-in-Rising c = judged {w = rising} (rw c.enum_told-1.given.1 at (said c.before.before))
@@ -41,7 +41,7 @@ returns-in-Bends : tie.Need-returns-in-Bends
 returns-in-Bends c = judged {w = bends} (rw c.enum_told-in-Bends-1.given.1 at (said c.before.before))
 
 returns-in-Refused : tie.Need-returns-in-Refused
-returns-in-Refused c = judged {w = none} (rw c.before.refusal-1.given.1 at (said c.before.before.before))
+returns-in-Refused c = judged {w = none} (rw c.refusal-1.given.1 at (said c.before.before.before))
 
 pub negwafir_judge_spec : {M : Type 1} → statement M
 negwafir_judge_spec =

@@ -8,7 +8,7 @@ locate-requires : tie.Need-locate-requires
 locate-requires c κs = search rules
 
 returns : tie.Need-returns
-returns c = rw (to_z-of_z c.before.ranges.position) at c.locate.ensures
+returns c = rw (to_z-of_z c.ranges.position) at c.locate.ensures
 
 pub negwafir_locate_spec : {M : Type 1} → statement M
 negwafir_locate_spec = tie.close (tie.spec locate-requires returns)

@@ -8,7 +8,7 @@ between-requires : tie.Need-between-requires
 between-requires c κs = search rules
 
 returns : tie.Need-returns
-returns c = rw (to_z-of_z c.before.ranges.low, to_z-of_z c.before.ranges.x, to_z-of_z c.before.ranges.high) at c.between.ensures
+returns c = rw (to_z-of_z c.ranges.low, to_z-of_z c.ranges.x, to_z-of_z c.ranges.high) at c.between.ensures
 
 pub negwafir_between_spec : {M : Type 1} → statement M
 negwafir_between_spec = tie.close (tie.spec between-requires returns)

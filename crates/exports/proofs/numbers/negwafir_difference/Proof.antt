@@ -10,7 +10,7 @@ difference-requires : tie.Need-difference-requires
 difference-requires c κs = search rules
 
 returns : tie.Need-returns
-returns c = returned w64 c.difference.type_inv (rw (to_z-of_z c.before.ranges.left, to_z-of_z c.before.ranges.right) at c.difference.ensures)
+returns c = returned w64 c.difference.type_inv (rw (to_z-of_z c.ranges.left, to_z-of_z c.ranges.right) at c.difference.ensures)
 
 pub negwafir_difference_spec : {M : Type 1} → statement M
 negwafir_difference_spec = tie.close (tie.spec difference-requires returns)

@@ -10,7 +10,7 @@ floor_div-requires : tie.Need-floor_div-requires
 floor_div-requires c κs = search rules
 
 returns : tie.Need-returns
-returns c = record { is = returned w64 c.floor_div.type_inv (rw (to_z-of_z c.before.ranges.n, to_z-of_z c.before.ranges.d) at c.floor_div.ensures.is) }
+returns c = record { is = returned w64 c.floor_div.type_inv (rw (to_z-of_z c.ranges.n, to_z-of_z c.ranges.d) at c.floor_div.ensures.is) }
 
 pub negwafir_floor_div_spec : {M : Type 1} → statement M
 negwafir_floor_div_spec = tie.close (tie.spec floor_div-requires returns)

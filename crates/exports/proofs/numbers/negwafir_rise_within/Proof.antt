@@ -8,7 +8,7 @@ rise_within-requires : tie.Need-rise_within-requires
 rise_within-requires c κs = search rules
 
 returns : tie.Need-returns
-returns c = rw (to_z-of_z c.before.ranges.z) at c.rise_within.ensures
+returns c = rw (to_z-of_z c.ranges.z) at c.rise_within.ensures
 
 pub negwafir_rise_within_spec : {M : Type 1} → statement M
 negwafir_rise_within_spec = tie.close (tie.spec rise_within-requires returns)

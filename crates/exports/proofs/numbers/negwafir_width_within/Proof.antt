@@ -8,7 +8,7 @@ width_within-requires : tie.Need-width_within-requires
 width_within-requires c κs = search rules
 
 returns : tie.Need-returns
-returns c = rw (to_z-of_z c.before.ranges.h) at c.width_within.ensures
+returns c = rw (to_z-of_z c.ranges.h) at c.width_within.ensures
 
 pub negwafir_width_within_spec : {M : Type 1} → statement M
 negwafir_width_within_spec = tie.close (tie.spec width_within-requires returns)

@@ -11,7 +11,7 @@ shape_of-into : tie.Need-shape_of-into
 shape_of-into c = search rules
 
 returns : tie.Need-returns
-returns c = let p = c.before.before in rw (to_z-of_z p.before.before.before.ranges.n) at p.append_whole.ensures
+returns c = let p = c.before.before in rw (to_z-of_z p.ranges.n) at p.append_whole.ensures
 
 pub negwafir_append_whole_spec : {M : Type 1} → statement M
 negwafir_append_whole_spec = tie.close (tie.spec append_whole-requires shape_of-into returns)

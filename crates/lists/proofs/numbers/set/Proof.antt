@@ -27,7 +27,7 @@ behind_first-at-requires c κs = search rules
 
 loop-n-init : tie.Need-loop-n-init invariant-loop-n decreases-loop-n
 loop-n-init c =
-    let a = c.before.before.args in
+    let a = c.args in
     let numbers = numbers_of (drop 1 (words_of a.line.now)) in
     subst (λ (ws : List (List ℕ)). Placing a.list.now numbers a.list.now 0 (numbers_of ws)) (sym c.behind_first-at.ensures) (none_placed a.list.now numbers)
 
@@ -41,15 +41,15 @@ enum_told-1 : tie.Need-enum_told-1 invariant-loop-n decreases-loop-n
 enum_told-1 c = search rules
 
 shape_of-list-in_default : tie.Need-shape_of-list-in_default invariant-loop-n decreases-loop-n
-shape_of-list-in_default c = c.before.before.before.before.loop-n.invariant.as_long
+shape_of-list-in_default c = c.loop-n.invariant.as_long
 
 returns-in_default : tie.Need-returns-in_default invariant-loop-n decreases-loop-n
 returns-in_default c =
     let next = c.before.before in
-    all_placed _ _ _ _ _ next.before.before.loop-n.invariant (next.next_number.ensures ∙ ap (numbers_next _) c.enum_told-1.given.1)
+    all_placed _ _ _ _ _ next.loop-n.invariant (next.next_number.ensures ∙ ap (numbers_next _) c.enum_told-1.given.1)
 
 offset_bounds-list-n : tie.Need-offset_bounds-list-n invariant-loop-n decreases-loop-n
-offset_bounds-list-n c = let p = c.before.before.before.before.before.loop-n.invariant in search rules
+offset_bounds-list-n c = let p = c.loop-n.invariant in search rules
 
 bounds-list-n : tie.Need-bounds-list-n invariant-loop-n decreases-loop-n
 bounds-list-n c = omega arith
@@ -58,27 +58,27 @@ overflow_add-n : tie.Need-overflow_add-n invariant-loop-n decreases-loop-n
 overflow_add-n c = omega arith
 
 loop-n-smaller : tie.Need-loop-n-smaller invariant-loop-n decreases-loop-n
-loop-n-smaller c = let p = c.before.before.before.before.before.loop-n.invariant in omega arith
+loop-n-smaller c = let p = c.loop-n.invariant in omega arith
 
 loop-n-preserved : tie.Need-loop-n-preserved invariant-loop-n decreases-loop-n
 loop-n-preserved c =
     let at = c.before.before.before.before.before in
-    let a = at.before.before.before.args in
+    let a = at.args in
     let l = at.loop-n in
     let numbers = numbers_of (drop 1 (words_of a.line.now)) in
-    let end = c.before.number-1.given.0.1.0 in
-    let n = c.before.number-1.given.0.0 in
+    let end = c.number-1.given.0.1.0 in
+    let n = c.number-1.given.0.0 in
     let fits : SFits w32 n = search rules in
-    let left = c.before.before.before.next_number.ensures ∙ ap (numbers_next a.line.now) c.before.number-1.given.1 in
+    let left = c.next_number.ensures ∙ ap (numbers_next a.line.now) c.number-1.given.1 in
     let next = subst (λ (ns : List ℤ). Placing a.list.now numbers l.list l.n ns) left l.invariant in
     subst⁻¹ (λ (z : ℤ). Placing a.list.now numbers (set l.list l.n z) (l.n + 1) (numbers_of (words_of (drop end a.line.now)))) (to_z-of_z fits)
     (one_placed _ _ _ _ _ _ next (omega arith))
 
 shape_of-list : tie.Need-shape_of-list invariant-loop-n decreases-loop-n
-shape_of-list c = c.before.loop-n.invariant.as_long
+shape_of-list c = c.loop-n.invariant.as_long
 
 returns : tie.Need-returns invariant-loop-n decreases-loop-n
-returns c = full _ _ _ _ _ c.before.loop-n.invariant c.loop-n-test.false
+returns c = full _ _ _ _ _ c.loop-n.invariant c.loop-n-test.false
 
 pub set_spec : {M : Type 1} → statement M
 set_spec =

@@ -8,7 +8,7 @@ returns-then-k-lt0 : tie.Need-returns-then-k-lt0
 returns-then-k-lt0 c = search rules
 
 overflow_cast-result : tie.Need-overflow_cast-result
-overflow_cast-result c = fits_natural c.before.args.k c.before.ranges.k c.if-k-lt0.false
+overflow_cast-result c = fits_natural c.args.k c.ranges.k c.if-k-lt0.false
 
 returns : tie.Need-returns
 returns c = search rules

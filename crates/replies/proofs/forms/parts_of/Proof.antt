@@ -72,45 +72,45 @@ with_naturals-requires-in-SlopeUnit c κs = search rules
 
 returns-in-Silent : tie.Need-returns-in-Silent
 unfolding filled line_of
-returns-in-Silent c = says line_of c.nothing.ensures c.before.enum_told-1.given.1 refl
+returns-in-Silent c = says line_of c.nothing.ensures c.enum_told-1.given.1 refl
 
 returns-in-Wrong : tie.Need-returns-in-Wrong
 unfolding line_of
-returns-in-Wrong c = known line_of c.before.before.reply-1.given.1 c.parts_of_fault.ensures
+returns-in-Wrong c = known line_of c.reply-1.given.1 c.parts_of_fault.ensures
 
 returns-in-Done : tie.Need-returns-in-Done
 unfolding filled line_of
 returns-in-Done c =
-    let given = c.before.before.before.reply-in-Done-1.given in
-    known line_of given.1 (said_unless given.0.0 c.unless_refused.ensures (record { said = ap written c.before.with_naturals.ensures }))
+    let given = c.reply-in-Done-1.given in
+    known line_of given.1 (said_unless given.0.0 c.unless_refused.ensures (record { said = ap written c.with_naturals.ensures }))
 
 returns-in-Count : tie.Need-returns-in-Count
 unfolding filled line_of
-returns-in-Count c = says line_of c.with_naturals-in-Count.ensures c.before.before.reply-in-Count-1.given.1 refl
+returns-in-Count c = says line_of c.with_naturals-in-Count.ensures c.reply-in-Count-1.given.1 refl
 
 returns-in-Judged : tie.Need-returns-in-Judged
 unfolding line_of
-returns-in-Judged c = known line_of c.before.before.reply-in-Judged-1.given.1 c.parts_of_verdict.ensures
+returns-in-Judged c = known line_of c.reply-in-Judged-1.given.1 c.parts_of_verdict.ensures
 
 returns-in-Valued : tie.Need-returns-in-Valued
 unfolding filled line_of
 returns-in-Valued c =
     let v = c.before.before.before in
-    let given = v.before.before.reply-in-Valued-1.given in
+    let given = v.reply-in-Valued-1.given in
     let fits : SFits w32 given.0.0.value = record { sfits = v.struct_told-1.given.1.0.1 } in
-    let number = c.before.before.whole32.ensures ∙ ap whole_as (to_z-of_z fits) in
-    let parts = c.before.with_number.ensures ∙ ap (λ (first : Signed). numbers 17 first (natural_as 0) (natural_as 0)) number in
+    let number = c.whole32.ensures ∙ ap whole_as (to_z-of_z fits) in
+    let parts = c.with_number.ensures ∙ ap (λ (first : Signed). numbers 17 first (natural_as 0) (natural_as 0)) number in
     known line_of given.1 (said_unless given.0.0.refusal c.unless_refused-in-Valued.ensures (record { said = ap written parts }))
 
 returns-in-Driven : tie.Need-returns-in-Driven
 unfolding line_of
 returns-in-Driven c =
-    let given = c.before.before.before.reply-in-Driven-1.given in
-    known line_of given.1 (said_unless given.0.0.refusal c.unless_refused-in-Driven.ensures c.before.parts_of_told.ensures)
+    let given = c.reply-in-Driven-1.given in
+    known line_of given.1 (said_unless given.0.0.refusal c.unless_refused-in-Driven.ensures c.parts_of_told.ensures)
 
 returns-in-SlopeUnit : tie.Need-returns-in-SlopeUnit
 unfolding filled line_of
-returns-in-SlopeUnit c = says line_of c.with_naturals-in-SlopeUnit.ensures c.before.before.reply-in-SlopeUnit-1.given.1 refl
+returns-in-SlopeUnit c = says line_of c.with_naturals-in-SlopeUnit.ensures c.reply-in-SlopeUnit-1.given.1 refl
 
 pub parts_of_spec : {M : Type 1} → statement M
 parts_of_spec =

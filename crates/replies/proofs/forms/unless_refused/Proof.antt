@@ -11,13 +11,13 @@ abbrev tested : Refusal → Parts → Bool → Parts
 tested r otherwise b = cond b otherwise (refusal r)
 
 returns-then-r-eq-DONE : tie.Need-returns-then-r-eq-DONE
-returns-then-r-eq-DONE c = let a = c.before.before.args in sym (ap (tested a.r a.otherwise) (eq-eqb _ _ c.if-r-eq-DONE.true))
+returns-then-r-eq-DONE c = let a = c.args in sym (ap (tested a.r a.otherwise) (eq-eqb _ _ c.if-r-eq-DONE.true))
 
 parts_of_refusal-requires : tie.Need-parts_of_refusal-requires
 parts_of_refusal-requires c κs = search rules
 
 returns : tie.Need-returns
-returns c = let a = c.before.before.before.args in c.parts_of_refusal.ensures ∙ sym (ap (tested a.r a.otherwise) (ne_eqb _ _ c.before.if-r-eq-DONE.false))
+returns c = let a = c.args in c.parts_of_refusal.ensures ∙ sym (ap (tested a.r a.otherwise) (ne_eqb _ _ c.if-r-eq-DONE.false))
 
 pub unless_refused_spec : {M : Type 1} → statement M
 unless_refused_spec = tie.close (tie.spec returns-then-r-eq-DONE parts_of_refusal-requires returns)

@@ -37,8 +37,8 @@ returns c =
     let cause = filling.before in
     let form = cause.before.before in
     let parts = form.before.before.before.before.before in
-    let a = parts.before.before.args in
-    subst (λ (l : List ℕ). Appended a.into-1.now a.held l put.append.new.0 put.append.result)
+    let a = parts.args in
+    subst (λ (l : List ℕ). Appended a.into.now a.held l put.append.new.0 put.append.result)
     (put_together _ _ parts.parts_of-parts.ensures refl refl form.entry.ensures cause.entry-2.ensures ending.part.ensures)
     (both filling.fill-n.ensures put.append.ensures)
 

@@ -13,8 +13,8 @@ whole_part-requires c κs = search rules
 returns-then-is_negative : tie.Need-returns-then-is_negative
 unfolding float_as
 returns-then-is_negative c =
-    let negative = sym c.before.if-is_negative.true ∙ c.before.before.is_negative.ensures in
-    ap (λ (n : ℕ). record { negative = true; size = n }) c.whole_part.ensures ∙ ap (λ (b : Bool). with_sign b c.before.before.before.args.x) negative
+    let negative = sym c.if-is_negative.true ∙ c.is_negative.ensures in
+    ap (λ (n : ℕ). record { negative = true; size = n }) c.whole_part.ensures ∙ ap (λ (b : Bool). with_sign b c.args.x) negative
 
 whole_part-requires-2 : tie.Need-whole_part-requires-2
 whole_part-requires-2 c κs = search rules
@@ -22,8 +22,8 @@ whole_part-requires-2 c κs = search rules
 returns : tie.Need-returns
 unfolding float_as
 returns c =
-    let negative = sym c.before.if-is_negative.false ∙ c.before.before.is_negative.ensures in
-    ap (λ (n : ℕ). record { negative = false; size = n }) c.whole_part-2.ensures ∙ ap (λ (b : Bool). with_sign b c.before.before.before.args.x) negative
+    let negative = sym c.if-is_negative.false ∙ c.is_negative.ensures in
+    ap (λ (n : ℕ). record { negative = false; size = n }) c.whole_part-2.ensures ∙ ap (λ (b : Bool). with_sign b c.args.x) negative
 
 pub float_spec : {M : Type 1} → statement M
 float_spec =

@@ -7,7 +7,7 @@ use Rattle.replies.proofs.written.whole_part.Tie as tie
 
 truncating_f64_to_u64-requires : tie.Need-truncating_f64_to_u64-requires
 unfolding of_bits neg
-truncating_f64_to_u64-requires c κs = record { lower_bound = subst T (sym c.before.if-x.true) tt; upper_bound = subst T (sym c.if-x-2.true) tt }
+truncating_f64_to_u64-requires c κs = record { lower_bound = subst T (sym c.if-x.true) tt; upper_bound = subst T (sym c.if-x-2.true) tt }
 
 -- what the definition makes of the first test, and of the second
 abbrev above : Float → Bool → ℕ
@@ -18,15 +18,15 @@ below x b = cond b (to_unsigned 64 x) 0
 
 returns-then-x-2 : tie.Need-returns-then-x-2
 unfolding of_bits neg whole_part
-returns-then-x-2 c = let x = c.before.before.before.args.x in c.truncating_f64_to_u64.ensures ∙ sym (ap (above x) c.before.before.if-x.true ∙ ap (below x) c.before.if-x-2.true)
+returns-then-x-2 c = let x = c.args.x in c.truncating_f64_to_u64.ensures ∙ sym (ap (above x) c.if-x.true ∙ ap (below x) c.if-x-2.true)
 
 returns-else-x-2 : tie.Need-returns-else-x-2
 unfolding of_bits neg whole_part
-returns-else-x-2 c = let x = c.before.before.args.x in sym (ap (above x) c.before.if-x.true ∙ ap (below x) c.if-x-2.false)
+returns-else-x-2 c = let x = c.args.x in sym (ap (above x) c.if-x.true ∙ ap (below x) c.if-x-2.false)
 
 returns-else-x : tie.Need-returns-else-x
 unfolding of_bits neg whole_part
-returns-else-x c = sym (ap (above c.before.args.x) c.if-x.false)
+returns-else-x c = sym (ap (above c.args.x) c.if-x.false)
 
 pub whole_part_spec : {M : Type 1} → statement M
 whole_part_spec = tie.close (tie.spec truncating_f64_to_u64-requires returns-then-x-2 returns-else-x-2 returns-else-x)

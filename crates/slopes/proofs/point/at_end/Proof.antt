@@ -22,7 +22,7 @@ end_piece-piece-requires c κs = search rules
 
 -- the second of three points or more is no end
 neighbour-next-requires : tie.Need-neighbour-next-requires
-neighbour-next-requires c κs = not_the_second c.before.requires.in_bounds c.before.requires.at_end
+neighbour-next-requires c κs = not_the_second c.requires.in_bounds c.requires.at_end
   where
     not_the_second : {n i : ℕ} → 2 < n → AtEnd n i → i ≡ 1 → ⊥
     not_the_second n (at_the_first z) e = omega arith
@@ -31,8 +31,8 @@ neighbour-next-requires c κs = not_the_second c.before.requires.in_bounds c.bef
 abbrev start : tie.After-neighbour-next → tie.Start
 start c = c.before.before
 
-first : (c : tie.After-neighbour-next) → c.before.end_piece-piece.result ≡ (start c).args.i - 1
-first c = c.before.end_piece-piece.ensures
+first : (c : tie.After-neighbour-next) → c.end_piece-piece.result ≡ (start c).args.i - 1
+first c = c.end_piece-piece.ensures
 
 second : (c : tie.After-neighbour-next) → Neighbour (start c).args.i c.neighbour-next.result
 second c = c.neighbour-next.ensures

@@ -15,10 +15,10 @@ overflow_sub-n : tie.Need-overflow_sub-n
 overflow_sub-n c = search rules
 
 returns-then-n-i-lt2 : tie.Need-returns-then-n-i-lt2
-returns-then-n-i-lt2 c = holds (at_the_last (omega (arith, c.if-n-i-lt2.true, c.before.before.requires)))
+returns-then-n-i-lt2 c = holds (at_the_last (omega (arith, c.if-n-i-lt2.true, c.requires)))
 
 returns : tie.Need-returns
-returns c = fails (neither c.before.if-i-eq0.false (omega (arith, c.if-n-i-lt2.false)))
+returns c = fails (neither c.if-i-eq0.false (omega (arith, c.if-n-i-lt2.false)))
   where
     neither : {n i : ℕ} → (i ≡ 0 → ⊥) → i + 1 < n → AtEnd n i → ⊥
     neither f l (at_the_first z) = f z

@@ -8,10 +8,10 @@ returns-then-i-eq0 : tie.Need-returns-then-i-eq0
 returns-then-i-eq0 c = behind_the_first c.if-i-eq0.true
 
 overflow_sub-result : tie.Need-overflow_sub-result
-overflow_sub-result c = omega (arith, c.if-i-eq0.false, c.before.requires)
+overflow_sub-result c = omega (arith, c.if-i-eq0.false, c.requires)
 
 returns : tie.Need-returns
-returns c = before_the_last (omega (arith, c.if-i-eq0.false, c.before.requires))
+returns c = before_the_last (omega (arith, c.if-i-eq0.false, c.requires))
 
 pub neighbour_spec : {M : Type 1} → statement M
 neighbour_spec = tie.close (tie.spec returns-then-i-eq0 overflow_sub-result returns)

@@ -32,18 +32,18 @@ loop-i-init c =
     (omega (arith, c.requires.from_le_to), omega (arith, c.requires.from_le_to), put_none (built c) s.from s.slopes.now)
 
 -- the list is as long as it was, and i is in it
-full : (c : tie.At-loop-i invariant-loop-i decreases-loop-i) → length c.loop-i.slopes ≡ length c.before.args.knots.now
+full : (c : tie.At-loop-i invariant-loop-i decreases-loop-i) → length c.loop-i.slopes ≡ length c.args.knots.now
 full c =
-    let s = c.before.args in
-    ap length c.loop-i.invariant.2 ∙ length_put (built c.before) s.from s.slopes.now (c.loop-i.i - s.from) ∙ c.before.requires.slopes_len
+    let s = c.args in
+    ap length c.loop-i.invariant.2 ∙ length_put (built c.before) s.from s.slopes.now (c.loop-i.i - s.from) ∙ c.requires.slopes_len
 
-in_list : (c : tie.In-loop-i invariant-loop-i decreases-loop-i) → c.before.loop-i.i < length c.before.before.args.knots.now
-in_list c = omega (arith, c.loop-i-test.true, c.before.before.requires.to_in_bounds)
+in_list : (c : tie.In-loop-i invariant-loop-i decreases-loop-i) → c.loop-i.i < length c.args.knots.now
+in_list c = omega (arith, c.loop-i-test.true, c.requires.to_in_bounds)
 
 slope-requires : tie.Need-slope-requires invariant-loop-i decreases-loop-i
 slope-requires c κs =
     let s = c.before.before in
-    record { unit_size = subst UnitSize (sym (to_z-of_z s.ranges.unit)) s.requires.unit_size; points_within = s.requires.points_within; i_in_bounds = omega (arith, in_list c, c.before.loop-i.invariant.0) }
+    record { unit_size = subst UnitSize (sym (to_z-of_z s.ranges.unit)) s.requires.unit_size; points_within = s.requires.points_within; i_in_bounds = omega (arith, in_list c, c.loop-i.invariant.0) }
 
 offset_bounds-slopes-i : tie.Need-offset_bounds-slopes-i invariant-loop-i decreases-loop-i
 offset_bounds-slopes-i c = let l = in_list c.before in search rules
@@ -59,25 +59,25 @@ loop-i-smaller c = search rules
 
 loop-i-preserved : tie.Need-loop-i-preserved invariant-loop-i decreases-loop-i
 loop-i-preserved c =
-    let s = c.before.before.before.args in
-    let inv = c.before.before.loop-i.invariant in
-    let i = c.before.before.loop-i.i in (
+    let s = c.args in
+    let inv = c.loop-i.invariant in
+    let i = c.loop-i.i in (
       omega (arith, inv.0),
-      omega (arith, c.before.loop-i-test.true),
+      omega (arith, c.loop-i-test.true),
       ap₂ (λ (list : List ℤ) (m : ℤ). set list i m) inv.2 (returned w32 {x = built c.before.before.before i} c.slope.type_inv c.slope.ensures)
           ∙ put_next (built c.before.before.before) s.from s.slopes.now i inv.0,
     )
 
 shape_of-slopes : tie.Need-shape_of-slopes invariant-loop-i decreases-loop-i
-shape_of-slopes c = full c.before ∙ sym c.before.before.requires.slopes_len
+shape_of-slopes c = full c.before ∙ sym c.requires.slopes_len
 
 returns : tie.Need-returns invariant-loop-i decreases-loop-i
 returns c =
     let start = c.before.before in
     let s = start.args in
-    let inv = c.before.loop-i.invariant in
+    let inv = c.loop-i.invariant in
     inv.2
-    ∙ ap (λ (i : ℕ). put (built start) s.from (i - s.from) s.slopes.now) {x = c.before.loop-i.i} {y = s.to} (omega (arith, inv.1, c.loop-i-test.false))
+    ∙ ap (λ (i : ℕ). put (built start) s.from (i - s.from) s.slopes.now) {x = c.loop-i.i} {y = s.to} (omega (arith, inv.1, c.loop-i-test.false))
     ∙ ap (λ (U : ℤ). put (built_slope U s.knots.now s.values.now) s.from (s.to - s.from) s.slopes.now) (to_z-of_z start.ranges.unit)
 
 pub renew_spec : {M : Type 1} → statement M

@@ -31,10 +31,10 @@ step-requires c κs = search rules
 step-requires-then-n-lt3 : tie.Need-step-requires-then-n-lt3
 step-requires-then-n-lt3 c κs = search rules
 
-only_width : (c : tie.After-step) → to_z w64 (of_z w64 c.step.result) ≡ step c.before.before.args.knots.now 0
+only_width : (c : tie.After-step) → to_z w64 (of_z w64 c.step.result) ≡ step c.args.knots.now 0
 only_width c = returned w64 c.step.type_inv c.step.ensures
 
-only_rise : (c : tie.After-step-then-n-lt3) → to_z w64 (of_z w64 c.step-then-n-lt3.result) ≡ step c.before.before.before.args.values.now 0
+only_rise : (c : tie.After-step-then-n-lt3) → to_z w64 (of_z w64 c.step-then-n-lt3.result) ≡ step c.args.values.now 0
 only_rise c = returned w64 c.step-then-n-lt3.type_inv c.step-then-n-lt3.ensures
 
 secant-requires : tie.Need-secant-requires
@@ -48,23 +48,23 @@ returns-then-n-lt3 c =
     let start = c.before.before.before.before in
     let s = start.args in
     returned w32 c.secant.type_inv c.secant.ensures
-    ∙ ap (λ (U : ℤ). secant_slope U (to_z w64 (of_z w64 c.before.before.step.result)) (to_z w64 (of_z w64 c.before.step-then-n-lt3.result))) (to_z-of_z start.ranges.unit)
+    ∙ ap (λ (U : ℤ). secant_slope U (to_z w64 (of_z w64 c.step.result)) (to_z w64 (of_z w64 c.step-then-n-lt3.result))) (to_z-of_z start.ranges.unit)
     ∙ ap₂ (secant_slope s.unit) (only_width c.before.before) (only_rise c.before)
-    ∙ slope_of_two s.unit s.knots.now s.values.now s.i (omega (arith, c.before.before.before.if-n-lt3.true))
+    ∙ slope_of_two s.unit s.knots.now s.values.now s.i (omega (arith, c.if-n-lt3.true))
 
 -- ---- an end of three or more
 
 is_end-requires : tie.Need-is_end-requires
-is_end-requires c κs = c.before.requires.i_in_bounds
+is_end-requires c κs = c.requires.i_in_bounds
 
-ends : (c : tie.After-is_end) → let s = c.before.before.args in Decided (AtEnd (length s.knots.now) s.i) c.is_end.result
+ends : (c : tie.After-is_end) → let s = c.args in Decided (AtEnd (length s.knots.now) s.i) c.is_end.result
 ends c = c.is_end.ensures
 
 at_end-requires : tie.Need-at_end-requires
 at_end-requires c κs =
     let d = c.before in
     let s = d.before.before in
-    record { unit_size = unit_handed s; points_within = s.requires.points_within; in_bounds = omega (arith, d.before.if-n-lt3.false); at_end = told (ends d) c.if-is_end.true }
+    record { unit_size = unit_handed s; points_within = s.requires.points_within; in_bounds = omega (arith, d.if-n-lt3.false); at_end = told (ends d) c.if-is_end.true }
 
 returns-then-is_end : tie.Need-returns-then-is_end
 returns-then-is_end c =

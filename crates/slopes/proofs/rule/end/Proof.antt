@@ -33,7 +33,7 @@ overflow_sub-z1 c = fits (given c.before) (search code depth 30 fits 9000) tt
 overflow_sub-z2 : tie.Need-overflow_sub-z2
 overflow_sub-z2 c = fits (given c.before) (search code depth 30 fits 9000) tt
 
-up : (c : tie.Then-z1-lt0) → pos 0 ≤ℤ neg_ℤ c.before.args.z1
+up : (c : tie.Then-z1-lt0) → pos 0 ≤ℤ neg_ℤ c.args.z1
 up c = 0≤_minus (<ℤ→≤ℤ (passed (given c.before) c.if-z1-lt0.true (search tests depth 30 fits 9000) tt))
 
 rising_end-requires : tie.Need-rising_end-requires
@@ -41,7 +41,7 @@ rising_end-requires c κs =
     let Γ = given c.before in
     let s = c.before in record { unit_size = as_coded₁ Γ UnitSize (search arguments depth 30 fits 9000) tt s.requires.unit_size; piece_within = as_coded₂ Γ PieceWithin (search arguments depth 30 fits 9000) tt (turned s.requires.piece_within); piece_within_2 = as_coded₂ Γ PieceWithin (search arguments depth 30 fits 9000) tt (turned s.requires.piece_within_2); pos_bound = as_coded₁ Γ (λ (z : ℤ). pos 0 ≤ℤ z) (search arguments depth 30 fits 9000) tt (up c) }
 
-fallen : (c : tie.After-rising_end) → let s = c.before.before.args in c.rising_end.result ≡ end_slope s.unit s.h1 (neg_ℤ s.z1) s.h2 (neg_ℤ s.z2)
+fallen : (c : tie.After-rising_end) → let s = c.args in c.rising_end.result ≡ end_slope s.unit s.h1 (neg_ℤ s.z1) s.h2 (neg_ℤ s.z2)
 fallen c =
     (plainly₅ (given c.before.before) (λ (U h₁ z₁ h₂ z₂ : ℤ). End U h₁ z₁ h₂ z₂ c.rising_end.result) c.rising_end.ensures (search code depth 30 fits 9000) (search arguments depth 30 fits 9000) tt).is
 
@@ -56,7 +56,7 @@ overflow_sub-result c = fits (steepness c) (search code depth 30 fits 9000) tt
 
 returns-then-z1-lt0 : tie.Need-returns-then-z1-lt0
 returns-then-z1-lt0 c =
-    let s = c.before.before.args in
+    let s = c.args in
     plain_is {Γ = steepness c} (search code depth 30 fits 9000) tt
     ∙ ap neg_ℤ (fallen c)
     ∙ sym (end_turned s.unit s.h1 (neg_ℤ s.z1) s.h2 (neg_ℤ s.z2))

@@ -33,7 +33,7 @@ returns-then-both-le0 c =
     let s = c.before in
     inner_level s.args.unit s.args.h1 s.args.z1 s.args.h2 s.args.z2 (passed_at_most (given s) c.if-both-le0.true (search tests depth 30 fits 9000) tt)
 
-product : (c : tie.Else-both-le0) → let s = c.before.args in pos 0 <ℤ (s.z1 *ℤ s.z2)
+product : (c : tie.Else-both-le0) → let s = c.args in pos 0 <ℤ (s.z1 *ℤ s.z2)
 product c = failed (given c.before) c.if-both-le0.false (search tests depth 30 fits 9000) tt
 
 -- ---- two falls
@@ -44,28 +44,28 @@ overflow_sub-z1 c = fits (given c.before.before) (search code depth 30 fits 9000
 overflow_sub-z2 : tie.Need-overflow_sub-z2
 overflow_sub-z2 c = fits (given c.before.before) (search code depth 30 fits 9000) tt
 
-down : (c : tie.Then-z1-lt0) → c.before.before.args.z1 <ℤ pos 0
+down : (c : tie.Then-z1-lt0) → c.args.z1 <ℤ pos 0
 down c = passed (given c.before.before) c.if-z1-lt0.true (search tests depth 30 fits 9000) tt
 
-falls : (c : tie.Then-z1-lt0) → let s = c.before.before.args in Up s.h1 (neg_ℤ s.z1) × Up s.h2 (neg_ℤ s.z2)
+falls : (c : tie.Then-z1-lt0) → let s = c.args in Up s.h1 (neg_ℤ s.z1) × Up s.h2 (neg_ℤ s.z2)
 falls c =
     let s = c.before.before in
     let u = both_down s.args.unit s.args.h1 s.args.z1 s.args.h2 s.args.z2 (product c.before) (down c) in
     (record { within = turned s.requires.piece_within; up = u.0 }, record { within = turned s.requires.piece_within_2; up = u.1 })
 
-twice_turned : (c : tie.Then-z1-lt0) → let s = c.before.before.args in Product (neg_ℤ s.z1) (neg_ℤ s.z2) (s.z1 *ℤ s.z2)
-twice_turned c = let s = c.before.before.args in record { is = ring (s.z1 ∷ s.z2 ∷ []) (search quote depth 30 fits 9000) tt }
+twice_turned : (c : tie.Then-z1-lt0) → let s = c.args in Product (neg_ℤ s.z1) (neg_ℤ s.z2) (s.z1 *ℤ s.z2)
+twice_turned c = let s = c.args in record { is = ring (s.z1 ∷ s.z2 ∷ []) (search quote depth 30 fits 9000) tt }
 
 mean-requires : tie.Need-mean-requires
 mean-requires c κs =
-    let Γ = given c.before.before in record { unit_size = as_coded₁ Γ UnitSize (search arguments depth 30 fits 9000) tt c.before.before.requires.unit_size; up = as_coded₂ Γ Up (search arguments depth 30 fits 9000) tt (falls c).0; up_2 = as_coded₂ Γ Up (search arguments depth 30 fits 9000) tt (falls c).1; product = as_coded₃ Γ Product (search arguments depth 30 fits 9000) tt (twice_turned c) }
+    let Γ = given c.before.before in record { unit_size = as_coded₁ Γ UnitSize (search arguments depth 30 fits 9000) tt c.requires.unit_size; up = as_coded₂ Γ Up (search arguments depth 30 fits 9000) tt (falls c).0; up_2 = as_coded₂ Γ Up (search arguments depth 30 fits 9000) tt (falls c).1; product = as_coded₃ Γ Product (search arguments depth 30 fits 9000) tt (twice_turned c) }
 
-fallen : (c : tie.After-mean) → let s = c.before.before.before.args in c.mean.result ≡ mean s.unit s.h1 (neg_ℤ s.z1) s.h2 (neg_ℤ s.z2)
+fallen : (c : tie.After-mean) → let s = c.args in c.mean.result ≡ mean s.unit s.h1 (neg_ℤ s.z1) s.h2 (neg_ℤ s.z2)
 fallen c =
     (plainly₅ (given c.before.before.before) (λ (U h₁ z₁ h₂ z₂ : ℤ). Mean U h₁ z₁ h₂ z₂ c.mean.result) c.mean.ensures (search code depth 30 fits 9000) (search arguments depth 30 fits 9000) tt).is
 
 small : (c : tie.After-mean) → Within 805306368 c.mean.result
-small c = subst (Within 805306368) (sym (fallen c)) (mean_within c.before.before.before.requires.unit_size (falls c.before).0 (falls c.before).1)
+small c = subst (Within 805306368) (sym (fallen c)) (mean_within c.requires.unit_size (falls c.before).0 (falls c.before).1)
 
 abbrev steepness : tie.After-mean → List Known
 steepness c = known c.mean.result 805306368 (small c) ∷ []
@@ -75,14 +75,14 @@ overflow_sub-result c = fits (steepness c) (search code depth 30 fits 9000) tt
 
 returns-then-z1-lt0 : tie.Need-returns-then-z1-lt0
 returns-then-z1-lt0 c =
-    let s = c.before.before.before.args in
+    let s = c.args in
     plain_is {Γ = steepness c} (search code depth 30 fits 9000) tt
     ∙ ap neg_ℤ (fallen c)
     ∙ inner_down s.unit s.h1 s.z1 s.h2 s.z2 (product c.before.before) (down c.before)
 
 -- ---- two rises
 
-up : (c : tie.Else-z1-lt0) → pos 0 ≤ℤ c.before.before.args.z1
+up : (c : tie.Else-z1-lt0) → pos 0 ≤ℤ c.args.z1
 up c = failed (given c.before.before) c.if-z1-lt0.false (search tests depth 30 fits 9000) tt
 
 mean-requires-2 : tie.Need-mean-requires-2

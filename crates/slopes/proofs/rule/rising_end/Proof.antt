@@ -111,7 +111,7 @@ overflow_mul-bound-then-z1-below : tie.Need-overflow_mul-bound-then-z1-below
 overflow_mul-bound-then-z1-below c = fits (given c.before.before) (search code depth 30 fits 9000) tt
 
 nonzero_div-bound : tie.Need-nonzero_div-bound
-nonzero_div-bound c = (positive_bits w64 c.before.before.requires.piece_within.width.low, fits (given c.before.before) (search code depth 30 fits 9000) tt)
+nonzero_div-bound c = (positive_bits w64 c.requires.piece_within.width.low, fits (given c.before.before) (search code depth 30 fits 9000) tt)
 
 overflow_cast-result : tie.Need-overflow_cast-result
 overflow_cast-result c = fits (given c.before.before) (search code depth 30 fits 9000) tt

@@ -43,15 +43,15 @@ step-z1-requires c κs = search rules
 loop-i-init : tie.Need-loop-i-init invariant-loop-i decreases-loop-i
 loop-i-init c = (
   omega arith,
-  omega (arith, c.before.before.requires.points_within.count.low),
-  returned w64 c.before.step-h1.type_inv c.before.step-h1.ensures,
+  omega (arith, c.requires.points_within.count.low),
+  returned w64 c.step-h1.type_inv c.step-h1.ensures,
   returned w64 c.step-z1.type_inv c.step-z1.ensures,
   refl,
 )
 
 -- ---- in the loop: the piece on the right of point i, which is an inner one
 
-inner_point : (c : tie.In-loop-i invariant-loop-i decreases-loop-i) → c.before.loop-i.i + 1 < length c.before.before.before.before.args.knots.now
+inner_point : (c : tie.In-loop-i invariant-loop-i decreases-loop-i) → c.loop-i.i + 1 < length c.args.knots.now
 inner_point c = omega (arith, c.loop-i-test.true)
 
 step-h2-requires : tie.Need-step-h2-requires invariant-loop-i decreases-loop-i
@@ -60,27 +60,27 @@ step-h2-requires c κs = let l = inner_point c in search rules
 step-z2-requires : tie.Need-step-z2-requires invariant-loop-i decreases-loop-i
 step-z2-requires c κs = let l = inner_point c.before in search rules
 
-right_width : (c : tie.After-step-h2 invariant-loop-i decreases-loop-i) → to_z w64 (of_z w64 c.step-h2.result) ≡ step c.before.before.before.before.before.args.knots.now c.before.before.loop-i.i
+right_width : (c : tie.After-step-h2 invariant-loop-i decreases-loop-i) → to_z w64 (of_z w64 c.step-h2.result) ≡ step c.args.knots.now c.loop-i.i
 right_width c = returned w64 c.step-h2.type_inv c.step-h2.ensures
 
-right_rise : (c : tie.After-step-z2 invariant-loop-i decreases-loop-i) → to_z w64 (of_z w64 c.step-z2.result) ≡ step c.before.before.before.before.before.before.args.values.now c.before.before.before.loop-i.i
+right_rise : (c : tie.After-step-z2 invariant-loop-i decreases-loop-i) → to_z w64 (of_z w64 c.step-z2.result) ≡ step c.args.values.now c.loop-i.i
 right_rise c = returned w64 c.step-z2.type_inv c.step-z2.ensures
 
 inner-requires : tie.Need-inner-requires invariant-loop-i decreases-loop-i
 inner-requires c κs =
     let s = c.before.before.before.before.before.before in
     let p = s.requires.points_within in
-    let i = c.before.before.before.loop-i.i in
-    let inv = c.before.before.before.loop-i.invariant in
+    let i = c.loop-i.i in
+    let inv = c.loop-i.invariant in
     let l = inner_point c.before.before in
     record { unit_size = subst UnitSize (sym (to_z-of_z s.ranges.unit)) s.requires.unit_size; piece_within = piece_within (i - 1) p (omega (arith, l, inv.0)) inv.2 inv.3; piece_within_2 = piece_within i p l (right_width c.before) (right_rise c) }
 
 -- ---- its slope is put into its place, and the list is as long as it was
 
-full : (c : tie.At-loop-i invariant-loop-i decreases-loop-i) → length c.loop-i.slopes ≡ length c.before.before.before.args.knots.now
+full : (c : tie.At-loop-i invariant-loop-i decreases-loop-i) → length c.loop-i.slopes ≡ length c.args.knots.now
 full c =
-    let s = c.before.before.before.args in
-    ap length c.loop-i.invariant.4 ∙ length_put (built c.before.before.before) 1 s.slopes.now (c.loop-i.i - 1) ∙ c.before.before.before.requires.slopes_len
+    let s = c.args in
+    ap length c.loop-i.invariant.4 ∙ length_put (built c.before.before.before) 1 s.slopes.now (c.loop-i.i - 1) ∙ c.requires.slopes_len
 
 offset_bounds-slopes-i : tie.Need-offset_bounds-slopes-i invariant-loop-i decreases-loop-i
 offset_bounds-slopes-i c = let l = inner_point c.before.before.before in search rules
@@ -101,8 +101,8 @@ loop-i-preserved c =
     let d = c.before.before.before in
     let start = d.before.before.before.before in
     let s = start.args in
-    let i = d.before.loop-i.i in
-    let inv = d.before.loop-i.invariant in
+    let i = d.loop-i.i in
+    let inv = d.loop-i.invariant in
     let ks = s.knots.now in
     let vs = s.values.now in
     let l = inner_point d in (
@@ -119,15 +119,15 @@ loop-i-preserved c =
 -- ---- behind the loop
 
 shape_of-slopes : tie.Need-shape_of-slopes invariant-loop-i decreases-loop-i
-shape_of-slopes c = full c.before ∙ sym c.before.before.before.before.requires.slopes_len
+shape_of-slopes c = full c.before ∙ sym c.requires.slopes_len
 
 returns : tie.Need-returns invariant-loop-i decreases-loop-i
 returns c =
     let start = c.before.before.before.before in
     let s = start.args in
-    let inv = c.before.loop-i.invariant in
+    let inv = c.loop-i.invariant in
     inv.4
-    ∙ ap (λ (n : ℕ). put (built start) 1 n s.slopes.now) {x = c.before.loop-i.i - 1} {y = length s.knots.now - 2} (omega (arith, inv.1, c.loop-i-test.false))
+    ∙ ap (λ (n : ℕ). put (built start) 1 n s.slopes.now) {x = c.loop-i.i - 1} {y = length s.knots.now - 2} (omega (arith, inv.1, c.loop-i-test.false))
     ∙ ap (λ (U : ℤ). put (built_slope U s.knots.now s.values.now) 1 (length s.knots.now - 2) s.slopes.now) (to_z-of_z start.ranges.unit)
 
 pub inner_spec : {M : Type 1} → statement M

@@ -29,25 +29,25 @@ shape_of-slopes-then-refusal-ne-DONE c = search rules
 
 returns-then-refusal-ne-DONE : tie.Need-returns-then-refusal-ne-DONE
 returns-then-refusal-ne-DONE c =
-    let s = c.before.before.before.before.args in
+    let s = c.args in
     record {
-      refusal = c.before.before.points-refusal.ensures;
-      slopes = kept s.slopes-1.now (built_slopes (unit s.s) s.knots.now s.values.now) c.if-refusal-ne-DONE.true;
+      refusal = c.points-refusal.ensures;
+      slopes = kept s.slopes.now (built_slopes (unit s.s) s.knots.now s.values.now) c.if-refusal-ne-DONE.true;
     }
 
 -- ---- accepted: nothing is written before every cause has been asked
 
-accepted : (c : tie.Else-refusal-ne-DONE) → let s = c.before.before.before.before.args in PointsWithin s.knots.now s.values.now
-accepted c = accepted_points c.if-refusal-ne-DONE.false c.before.before.points-refusal.ensures
+accepted : (c : tie.Else-refusal-ne-DONE) → let s = c.args in PointsWithin s.knots.now s.values.now
+accepted c = accepted_points c.if-refusal-ne-DONE.false c.points-refusal.ensures
 
-as_many : (c : tie.Else-refusal-ne-DONE) → let s = c.before.before.before.before.args in length s.slopes-1.now ≡ length s.knots.now
-as_many c = (lengths_asked c.if-refusal-ne-DONE.false c.before.before.points-refusal.ensures).slopes-1
+as_many : (c : tie.Else-refusal-ne-DONE) → let s = c.args in length s.slopes.now ≡ length s.knots.now
+as_many c = (lengths_asked c.if-refusal-ne-DONE.false c.points-refusal.ensures).slopes-1
 
 abbrev start : tie.Else-refusal-ne-DONE → tie.Start
-start c = c.before.before.before.before
+start c = c.before.before.before
 
 unit-unit-requires : tie.Need-unit-unit-requires
-unit-unit-requires c κs = unit_asked c.if-refusal-ne-DONE.false c.before.before.points-refusal.ensures
+unit-unit-requires c κs = unit_asked c.if-refusal-ne-DONE.false c.points-refusal.ensures
 
 -- the unit, as it is handed on, and the slope of each point in it
 handed : (c : tie.After-unit-unit) → to_z w64 (of_z w64 c.unit-unit.result) ≡ unit (start c.before).args.s
@@ -131,7 +131,7 @@ returns c =
     let d = (first (run c.before.before.before.before)).before in
     let s = (start d).args in
     record {
-      refusal = d.before.before.points-refusal.ensures;
+      refusal = d.points-refusal.ensures;
       slopes = all_built c.before ∙ replaced s.slopes-1.now (built_slopes (unit s.s) s.knots.now s.values.now) d.if-refusal-ne-DONE.left;
     }
 

@@ -31,8 +31,8 @@ entry-requires c κs = search rules
 
 returns : tie.Need-returns
 returns c =
-    let a = c.before.before.args in
-    let other = get_or-set_other a.list.now a.at a.i a.new (pos 0) c.before.if-i-at.left in
+    let a = c.args in
+    let other = get_or-set_other a.list.now a.at a.i a.new (pos 0) c.if-i-at.left in
     as_read c.entry.ok (subst (λ (x : ℤ). Read x c.entry.result) (sym other) c.entry.ensures)
 
 pub entry_spec : {M : Type 1} → statement M

@@ -19,7 +19,7 @@ entry-requires-2 : tie.Need-entry-requires-2
 entry-requires-2 c κs = search rules
 
 abbrev given : tie.After-entry-2 → List Known
-given c = known c.before.entry.result _ c.before.entry.ensures.within ∷ known c.entry-2.result _ c.entry-2.ensures.within ∷ []
+given c = known c.entry.result _ c.entry.ensures.within ∷ known c.entry-2.result _ c.entry-2.ensures.within ∷ []
 
 overflow_sub-result : tie.Need-overflow_sub-result
 overflow_sub-result c = fits (given c) (search code depth 30 fits 9000) tt
@@ -29,7 +29,7 @@ returns c =
     let s = c.before.before in
     let a = s.args in
     plain_is {Γ = given c} (search code depth 30 fits 9000) tt
-    ∙ ap₂ (λ (x y : ℤ). x -ℤ y) c.before.entry.ensures.is c.entry-2.ensures.is
+    ∙ ap₂ (λ (x y : ℤ). x -ℤ y) c.entry.ensures.is c.entry-2.ensures.is
     ∙ ap (λ (l : List ℤ). step l a.i) (as_it_came a.list.now a.at s.ranges.new)
 
 pub step_spec : {M : Type 1} → statement M

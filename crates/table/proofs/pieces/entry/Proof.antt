@@ -14,7 +14,7 @@ bounds-list-i : tie.Need-bounds-list-i
 bounds-list-i c = search rules
 
 abbrev given : tie.After-result-1 → List Known
-given c = let a = c.before.args in held w32 (entry a.list.now a.i) (record { sfits = c.result-1.given }) ∷ []
+given c = let a = c.args in held w32 (entry a.list.now a.i) (record { sfits = c.result-1.given }) ∷ []
 
 overflow_cast-result : tie.Need-overflow_cast-result
 overflow_cast-result c = fits (given c) (search code depth 30 fits 9000) tt

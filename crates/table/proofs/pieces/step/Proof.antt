@@ -29,9 +29,9 @@ difference-requires c κs = search rules
 
 returns : tie.Need-returns
 returns c =
-    let args = c.before.before.before.args in
-    let left = held w32 (entry args.list.now args.i) (record { sfits = c.before.before.difference-arg-1.given }) in
-    let right = held w32 (entry args.list.now (args.i + 1)) (record { sfits = c.before.difference-arg-2-1.given }) in
+    let args = c.args in
+    let left = held w32 (entry args.list.now args.i) (record { sfits = c.difference-arg-1.given }) in
+    let right = held w32 (entry args.list.now (args.i + 1)) (record { sfits = c.difference-arg-2-1.given }) in
     returned w64 c.difference.type_inv c.difference.ensures ∙ plain_is {Γ = left ∷ right ∷ []} (search code depth 30 fits 9000) tt
 
 pub step_spec : {M : Type 1} → statement M

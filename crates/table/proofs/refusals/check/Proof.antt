@@ -13,19 +13,19 @@ outline-outlined-requires : tie.Need-outline-outlined-requires
 outline-outlined-requires c κs = search rules
 
 returns-then-outlined-ne-DONE : tie.Need-returns-then-outlined-ne-DONE
-returns-then-outlined-ne-DONE c = stopped (3 ∷ 4 ∷ 5 ∷ []) c.if-outlined-ne-DONE.true c.before.before.outline-outlined.ensures
+returns-then-outlined-ne-DONE c = stopped (3 ∷ 4 ∷ 5 ∷ []) c.if-outlined-ne-DONE.true c.outline-outlined.ensures
 
 first-requires : tie.Need-first-requires
 first-requires c κs =
-    let g = c.before.before.outline-outlined.ensures in
+    let g = c.outline-outlined.ensures in
     record { unit_within = unit_asked c.if-outlined-ne-DONE.false g; askable = record { low = omega arith; high = omega arith }; same_lengths = lengths_asked c.if-outlined-ne-DONE.false g; knots_nonzero = omega (arith, (count_asked c.if-outlined-ne-DONE.false g).low) }
 
 -- what the search answers
-steps : (c : tie.After-first) → let s = c.before.before.before.before.args in Given (Holds (table s.s s.knots.now s.values.now s.slopes.now)) (3 ∷ 4 ∷ 5 ∷ []) c.first.result.number c.first.result.place
+steps : (c : tie.After-first) → let s = c.args in Given (Holds (table s.s s.knots.now s.values.now s.slopes.now)) (3 ∷ 4 ∷ 5 ∷ []) c.first.result.number c.first.result.place
 steps c = c.first.ensures
 
 returns : tie.Need-returns
-returns c = went_on c.before.if-outlined-ne-DONE.false c.before.before.before.outline-outlined.ensures (steps c)
+returns c = went_on c.if-outlined-ne-DONE.false c.outline-outlined.ensures (steps c)
 
 pub check_spec : {M : Type 1} → statement M
 check_spec = tie.close (tie.spec outline-outlined-requires returns-then-outlined-ne-DONE first-requires returns)

@@ -53,18 +53,18 @@ module _ (c : tie.After-slope-slope) where
 returns-in-Now : tie.Need-returns-in-Now
 returns-in-Now c =
     let e = c.before.before in
-    is_end e.before.before Now e.enum_told-1.given.1 (as_read c.before.entry.type_inv c.before.entry.ensures) (as_read c.entry-in-Now.type_inv c.entry-in-Now.ensures)
+    is_end e.before.before Now e.enum_told-1.given.1 (as_read c.entry.type_inv c.entry.ensures) (as_read c.entry-in-Now.type_inv c.entry-in-Now.ensures)
 
 returns-in-After : tie.Need-returns-in-After
 returns-in-After c =
     let k = c.before.before in
     let e = k.before.before.before in
     let p = e.before.before in
-    let a = p.before.args in
+    let a = p.args in
     let d = e.points-1.given.0.0 in
     is_end p (After d) e.points-1.given.1
-    (as_read k.entry-in-After.type_inv (subst (λ (l : List ℤ). Read (entry l a.i) k.entry-in-After.result) (as_it_came a.knots.now d.point (record { sfits = k.before.struct_told-1.given.1.0.1 })) k.entry-in-After.ensures))
-    (as_read c.entry-in-After-2.type_inv (subst (λ (l : List ℤ). Read (entry l a.i) c.entry-in-After-2.result) (as_it_came a.values.now d.point (record { sfits = c.before.struct_told-in-After-1.given.1.1.0.1 })) c.entry-in-After-2.ensures))
+    (as_read k.entry-in-After.type_inv (subst (λ (l : List ℤ). Read (entry l a.i) k.entry-in-After.result) (as_it_came a.knots.now d.point (record { sfits = k.struct_told-1.given.1.0.1 })) k.entry-in-After.ensures))
+    (as_read c.entry-in-After-2.type_inv (subst (λ (l : List ℤ). Read (entry l a.i) c.entry-in-After-2.result) (as_it_came a.values.now d.point (record { sfits = c.struct_told-in-After-1.given.1.1.0.1 })) c.entry-in-After-2.ensures))
 
 pub end_at_spec : {M : Type 1} → statement M
 end_at_spec =

@@ -51,7 +51,7 @@ returns-then-not-width_within c = in_width (denied (width c.before) (not-true _ 
 
 returns-then-last-lt-RISE : tie.Need-returns-then-last-lt-RISE
 returns-then-last-lt-RISE c =
-    let last = c.before.before.before.before.before.before.before.args.last in
+    let last = c.args.last in
     none (wide c.before) (λ (l : 4 ≤ last). absurd (omega (arith, l, c.if-last-lt-RISE.true))) (λ (l : 5 ≤ last). absurd (omega (arith, l, c.if-last-lt-RISE.true)))
 
 -- ---- the rise
@@ -94,13 +94,13 @@ before_z c = c.before.before.before.before.before.before.before
 is_monotone-requires : tie.Need-is_monotone-requires
 is_monotone-requires c κs =
     let e = c.before.before in
-    let s = start (before_z e) in record { unit_size = as_coded₁ (given s) UnitSize (search arguments depth 30 fits 9000) tt s.requires.unit_size; width_within = told (before_z e).before.before.width_within.ensures (not-false _ (before_z e).before.if-not-width_within.false); rise_within = told e.before.before.rise_within.ensures (not-false _ e.before.if-not-rise_within.false) }
+    let s = start (before_z e) in record { unit_size = as_coded₁ (given s) UnitSize (search arguments depth 30 fits 9000) tt s.requires.unit_size; width_within = told (before_z e).width_within.ensures (not-false _ (before_z e).if-not-width_within.false); rise_within = told e.rise_within.ensures (not-false _ e.if-not-rise_within.false) }
 
 monotone : (c : tie.After-is_monotone) → let s = start (before_z c.before.before.before) in Decided (Monotone s.args.unit (h s) (z s) s.args.left.slope s.args.right.slope) c.is_monotone.result
 monotone c =
     let s = start (before_z c.before.before.before) in
-    let m = held w32 s.args.left.slope (record { sfits = c.before.before.struct_told-5-1.given.1.1.0.1 }) in
-    let n = held w32 s.args.right.slope (record { sfits = c.before.struct_told-6-1.given.1.1.0.1 }) in
+    let m = held w32 s.args.left.slope (record { sfits = c.struct_told-5-1.given.1.1.0.1 }) in
+    let n = held w32 s.args.right.slope (record { sfits = c.struct_told-6-1.given.1.1.0.1 }) in
     plainly₅ (m ∷ n ∷ given s) (λ (U h z m n : ℤ). Decided (Monotone U h z m n) c.is_monotone.result) c.is_monotone.ensures (search code depth 30 fits 9000) (search arguments depth 30 fits 9000) tt
 
 returns-then-not-is_monotone : tie.Need-returns-then-not-is_monotone

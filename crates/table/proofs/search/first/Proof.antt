@@ -29,14 +29,14 @@ loop-number-init c = begins (cause c.before) c.scan-found.ensures
 
 -- ---- once more, behind a piece of which 4 or 5 holds
 
-above_3 : (c : tie.In-loop-number invariant-loop-number decreases-loop-number) → 3 < c.before.loop-number.number
+above_3 : (c : tie.In-loop-number invariant-loop-number decreases-loop-number) → 3 < c.loop-number.number
 above_3 c = omega (arith, c.loop-number-test.true)
 
-there : (c : tie.In-loop-number invariant-loop-number decreases-loop-number) → c.before.loop-number.place + 1 < length c.before.before.before.args.knots.now
+there : (c : tie.In-loop-number invariant-loop-number decreases-loop-number) → c.loop-number.place + 1 < length c.args.knots.now
 there c =
     let start = c.before.before.before in
     let s = start.args in
-    standing_there (cause start) (above_3 c) c.before.loop-number.invariant _
+    standing_there (cause start) (above_3 c) c.loop-number.invariant _
     (λ d q a b. asked_there s.points (table s.s s.knots.now s.values.now s.slopes.now) d q a (omega (arith, b, start.requires.askable.high)))
 
 overflow_sub-number : tie.Need-overflow_sub-number invariant-loop-number decreases-loop-number
@@ -48,11 +48,11 @@ overflow_add-place c = let l = there c in search rules
 scan-earlier-requires : tie.Need-scan-earlier-requires invariant-loop-number decreases-loop-number
 scan-earlier-requires c κs =
     let s = c.before.before.before in
-    let inv = c.before.loop-number.invariant in
+    let inv = c.loop-number.invariant in
     record { unit_within = s.requires.unit_within; askable = record { low = omega (arith, above_3 c); high = omega (arith, standing_within (cause s) inv, s.requires.askable.high) }; same_lengths = s.requires.same_lengths; from_in_bounds = there c }
 
 -- what is asked there: what comes before the number that stands, from the next piece on
-behind : (c : tie.After-scan-earlier invariant-loop-number decreases-loop-number) → let w = c.before in Scanned (cause w.before.before.before) (w.before.loop-number.number - 1) (w.before.loop-number.place + 1) c.scan-earlier.result.number c.scan-earlier.result.place
+behind : (c : tie.After-scan-earlier invariant-loop-number decreases-loop-number) → let w = c.before in Scanned (cause w.before.before.before) (w.loop-number.number - 1) (w.loop-number.place + 1) c.scan-earlier.result.number c.scan-earlier.result.place
 behind c = c.scan-earlier.ensures
 
 loop-number-smaller : tie.Need-loop-number-smaller invariant-loop-number decreases-loop-number
@@ -63,20 +63,20 @@ loop-number-smaller c =
 loop-number-preserved : tie.Need-loop-number-preserved invariant-loop-number decreases-loop-number
 loop-number-preserved c =
     let w = c.before.before.before in
-    goes_on (cause w.before.before.before) (above_3 w) c.if-earlier-eq-DONE.false w.before.loop-number.invariant (behind c.before.before)
+    goes_on (cause w.before.before.before) (above_3 w) c.if-earlier-eq-DONE.false w.loop-number.invariant (behind c.before.before)
 
 -- ---- the answer
 
 returns-after-loop-number : tie.Need-returns-after-loop-number invariant-loop-number decreases-loop-number
 returns-after-loop-number c =
     let s = c.before.before.before in
-    settles (cause s) s.requires.askable.low c.before.loop-number.invariant (none_before (cause s) (λ (l : 3 < c.before.loop-number.number). omega (arith, l, c.loop-number-test.false)))
+    settles (cause s) s.requires.askable.low c.loop-number.invariant (none_before (cause s) (λ (l : 3 < c.loop-number.number). omega (arith, l, c.loop-number-test.false)))
 
 returns-then-earlier-eq-DONE : tie.Need-returns-then-earlier-eq-DONE invariant-loop-number decreases-loop-number
 returns-then-earlier-eq-DONE c =
     let w = c.before.before.before in
     let s = w.before.before.before in
-    settles (cause s) s.requires.askable.low w.before.loop-number.invariant (none_behind (cause s) (above_3 w) c.if-earlier-eq-DONE.true w.before.loop-number.invariant (behind c.before.before))
+    settles (cause s) s.requires.askable.low w.loop-number.invariant (none_behind (cause s) (above_3 w) c.if-earlier-eq-DONE.true w.loop-number.invariant (behind c.before.before))
 
 pub first_spec : {M : Type 1} → statement M
 first_spec =

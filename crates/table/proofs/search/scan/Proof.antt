@@ -28,10 +28,10 @@ unit-unit-requires : tie.Need-unit-unit-requires invariant-loop-i decreases-loop
 unit-unit-requires c κs = c.requires.unit_within
 
 end_at-left-requires : tie.Need-end_at-left-requires invariant-loop-i decreases-loop-i
-end_at-left-requires c κs = c.before.requires.1.1
+end_at-left-requires c κs = c.requires.1.1
 
 loop-i-init : tie.Need-loop-i-init invariant-loop-i decreases-loop-i
-loop-i-init c = (omega arith, c.before.before.requires.from_in_bounds, c.end_at-left.ensures, λ q l k. absurd (omega (arith, l, k)))
+loop-i-init c = (omega arith, c.requires.from_in_bounds, c.end_at-left.ensures, λ q l k. absurd (omega (arith, l, k)))
 
 overflow_sub-knots : tie.Need-overflow_sub-knots invariant-loop-i decreases-loop-i
 overflow_sub-knots c = search rules
@@ -49,13 +49,13 @@ there s c q a b = asked_there s.args.points (given s) c q a (omega (arith, b, s.
 returns-then-knots-i-lt2 : tie.Need-returns-then-knots-i-lt2 invariant-loop-i decreases-loop-i
 returns-then-knots-i-lt2 c =
     let s = c.before.before.before.before in
-    nothing_there (cause s) c.before.loop-i.invariant.3 (length s.args.knots.now) (there s) c.if-knots-i-lt2.true
+    nothing_there (cause s) c.loop-i.invariant.3 (length s.args.knots.now) (there s) c.if-knots-i-lt2.true
 
 overflow_add-i : tie.Need-overflow_add-i invariant-loop-i decreases-loop-i
 overflow_add-i c = search rules
 
 end_at-right-requires : tie.Need-end_at-right-requires invariant-loop-i decreases-loop-i
-end_at-right-requires c κs = record { same_lengths = c.before.before.before.before.requires.same_lengths; i_in_bounds = omega (arith, c.if-knots-i-lt2.false) }
+end_at-right-requires c κs = record { same_lengths = c.requires.same_lengths; i_in_bounds = omega (arith, c.if-knots-i-lt2.false) }
 
 -- where the unit was worked out
 abbrev before_loop : tie.After-end_at-right invariant-loop-i decreases-loop-i → tie.After-unit-unit invariant-loop-i decreases-loop-i
@@ -63,19 +63,19 @@ before_loop c = c.before.before.before.before
 
 fault-number-requires : tie.Need-fault-number-requires invariant-loop-i decreases-loop-i
 fault-number-requires c κs =
-    let l = c.before.before.loop-i.invariant.2 in
+    let l = c.loop-i.invariant.2 in
     let r = c.end_at-right.ensures in
     let u = (before_loop c).unit-unit in record { unit_size = as_coded₁ (known_unit u.result u.ensures.1 ∷ []) UnitSize (search arguments depth 30 fits 9000) tt u.ensures.1; within = (l.knot_read.within, r.knot_read.within); within_2 = (l.value_read.within, r.value_read.within) }
 
 -- what is found of the piece between the two
 found : (c : tie.After-fault-number invariant-loop-i decreases-loop-i)
     → let s = (before_loop c.before).before in
-    FaultAt (cause s) s.args.last c.before.before.before.loop-i.i c.fault-number.result
+    FaultAt (cause s) s.args.last c.loop-i.i c.fault-number.result
 found c =
     let p = c.before.before in
     let u = before_loop c.before in
     let s = u.before in
-    fault_between s.args.points (given s) s.requires.askable (omega (arith, p.if-knots-i-lt2.false)) (returned w64 u.unit-unit.ok u.unit-unit.ensures.value) p.before.loop-i.invariant.2 c.before.end_at-right.ensures c.fault-number.ensures
+    fault_between s.args.points (given s) s.requires.askable (omega (arith, p.if-knots-i-lt2.false)) (returned w64 u.unit-unit.ok u.unit-unit.ensures.value) p.loop-i.invariant.2 c.end_at-right.ensures c.fault-number.ensures
 
 overflow_add-i-in-loop-i : tie.Need-overflow_add-i-in-loop-i invariant-loop-i decreases-loop-i
 overflow_add-i-in-loop-i c = let s = (before_loop c.before.before).before in search rules
@@ -87,10 +87,10 @@ loop-i-preserved : tie.Need-loop-i-preserved invariant-loop-i decreases-loop-i
 loop-i-preserved c =
     let p = c.before.before.before in
     let s = (before_loop c.before.before).before in
-    let inv = p.before.loop-i.invariant in (
+    let inv = p.loop-i.invariant in (
       omega (arith, inv.0),
       omega (arith, p.if-knots-i-lt2.false),
-      c.before.before.end_at-right.ensures,
+      c.end_at-right.ensures,
       below_more (λ (q : ℕ). s.args.from ≤ q → SoundAt (cause s) s.args.last q) _ inv.3 (λ _. is_sound _ c.if-number-ne-DONE.false (found c.before)),
     )
 
@@ -98,7 +98,7 @@ returns : tie.Need-returns invariant-loop-i decreases-loop-i
 returns c =
     let p = c.before.before.before in
     let s = (before_loop c.before.before).before in
-    let inv = p.before.loop-i.invariant in
+    let inv = p.loop-i.invariant in
     fault_there (cause s) inv.3 c.if-number-ne-DONE.true inv.0 (found c.before)
 
 pub scan_spec : {M : Type 1} → statement M

@@ -7,7 +7,7 @@ use Rattle.table.proofs.search.slope.Statement.{statement}
 use Rattle.table.proofs.search.slope.Tie as tie
 
 returns-then-last-lt-BEND : tie.Need-returns-then-last-lt-BEND
-returns-then-last-lt-BEND c = record { is = λ (l : 5 ≤ c.before.args.last). absurd (omega (arith, l, c.if-last-lt-BEND.true)) }
+returns-then-last-lt-BEND c = record { is = λ (l : 5 ≤ c.args.last). absurd (omega (arith, l, c.if-last-lt-BEND.true)) }
 
 offset_bounds-slopes-i : tie.Need-offset_bounds-slopes-i
 offset_bounds-slopes-i c = search rules

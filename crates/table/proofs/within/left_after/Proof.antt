@@ -15,15 +15,15 @@ overflow_sub-k : tie.Need-overflow_sub-k
 overflow_sub-k c = search rules
 
 one_after-requires : tie.Need-one_after-requires
-one_after-requires c κs = record { paired = c.before.requires.paired; i_in_bounds = omega (arith, c.if-k-eq0.false, c.before.requires.point_in_bounds) }
+one_after-requires c κs = record { paired = c.requires.paired; i_in_bounds = omega (arith, c.if-k-eq0.false, c.requires.point_in_bounds) }
 
 returns-then-not-one_after : tie.Need-returns-then-not-one_after
 returns-then-not-one_after c =
     let o = c.before in
-    fails (λ p. denied o.one_after.ensures (not-true _ c.if-not-one_after.true) (p.each _ (omega arith) (omega (arith, o.before.if-k-eq0.false))))
+    fails (λ p. denied o.one_after.ensures (not-true _ c.if-not-one_after.true) (p.each _ (omega arith) (omega (arith, o.if-k-eq0.false))))
 
 overflow_sub-k-2 : tie.Need-overflow_sub-k-2
-overflow_sub-k-2 c = omega (arith, c.before.before.if-k-eq0.false)
+overflow_sub-k-2 c = omega (arith, c.if-k-eq0.false)
 
 all-requires : tie.Need-all-requires
 all-requires c κs = let s = c.before.before.before in record { paired = s.requires.paired; from_le_end = (omega arith, omega (arith, s.requires.point_in_bounds)) }
@@ -32,7 +32,7 @@ returns : tie.Need-returns
 returns c =
     let e = c.before in
     let o = e.before in
-    left_of_it _ _ _ (omega (arith, o.before.if-k-eq0.false)) (told o.one_after.ensures (not-false _ e.if-not-one_after.false)) c.all.ensures
+    left_of_it _ _ _ (omega (arith, o.if-k-eq0.false)) (told o.one_after.ensures (not-false _ e.if-not-one_after.false)) c.all.ensures
 
 pub left_after_spec : {M : Type 1} → statement M
 left_after_spec = tie.close (tie.spec returns-then-k-eq0 overflow_sub-k one_after-requires returns-then-not-one_after overflow_sub-k-2 all-requires returns)

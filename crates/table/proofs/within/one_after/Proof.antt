@@ -16,11 +16,11 @@ step-requires c κs = search rules
 width_within-requires : tie.Need-width_within-requires
 width_within-requires c κs = search rules
 
-width : (c : tie.After-width_within) → let s = c.before.before.before.args in Decided (WidthWithin (step (set s.knots.now s.change.point s.change.knot) s.i)) c.width_within.result
+width : (c : tie.After-width_within) → let s = c.args in Decided (WidthWithin (step (set s.knots.now s.change.point s.change.knot) s.i)) c.width_within.result
 width c =
     let w = c.before in
-    let s = w.before.before.args in
-    asked WidthWithin (stepped s.knots.now s.change.point s.i (record { sfits = w.before.struct_told-1.given.1.0.1 }) w.step.type_inv w.step.ensures) c.width_within.ensures
+    let s = w.args in
+    asked WidthWithin (stepped s.knots.now s.change.point s.i (record { sfits = w.struct_told-1.given.1.0.1 }) w.step.type_inv w.step.ensures) c.width_within.ensures
 
 returns-then-not-width_within : tie.Need-returns-then-not-width_within
 returns-then-not-width_within c = fails (λ p. denied (width c.before) (not-true _ c.if-not-width_within.true) p.width)
@@ -31,11 +31,11 @@ step-requires-2 c κs = search rules
 rise_within-requires : tie.Need-rise_within-requires
 rise_within-requires c κs = search rules
 
-rise : (c : tie.After-rise_within) → let s = c.before.before.before.before.before.before.before.args in Decided (RiseWithin (step (set s.values.now s.change.point s.change.value) s.i)) c.rise_within.result
+rise : (c : tie.After-rise_within) → let s = c.args in Decided (RiseWithin (step (set s.values.now s.change.point s.change.value) s.i)) c.rise_within.result
 rise c =
     let z = c.before in
-    let s = z.before.before.before.before.before.before.args in
-    asked RiseWithin (stepped s.values.now s.change.point s.i (record { sfits = z.before.struct_told-2-1.given.1.1.0.1 }) z.step-2.type_inv z.step-2.ensures) c.rise_within.ensures
+    let s = z.args in
+    asked RiseWithin (stepped s.values.now s.change.point s.i (record { sfits = z.struct_told-2-1.given.1.1.0.1 }) z.step-2.type_inv z.step-2.ensures) c.rise_within.ensures
 
 returns : tie.Need-returns
 returns c =

@@ -23,11 +23,11 @@ run-requires c κs = search rules
 
 returns-then-start-line : tie.Need-returns-then-start-line
 returns-then-start-line c =
-    found c.before.before.before.before.args.line.now c.before.before.before.before.args.from c.before.before.run-start.result c.run.result
-    c.before.before.run-start.ensures c.before.if-start-line.true c.run.ensures
+    found c.args.line.now c.args.from c.run-start.result c.run.result
+    c.run-start.ensures c.if-start-line.true c.run.ensures
 
 returns-else-start-line : tie.Need-returns-else-start-line
-returns-else-start-line c = rw (← c.before.run-start.ensures, le-ltb _ _ c.if-start-line.false)
+returns-else-start-line c = rw (← c.run-start.ensures, le-ltb _ _ c.if-start-line.false)
 
 pub next_word_spec : {M : Type 1} → statement M
 next_word_spec = tie.close (tie.spec run-start-requires run-requires returns-then-start-line returns-else-start-line)

@@ -12,14 +12,14 @@ slice_bounds-result-end : tie.Need-slice_bounds-result-end
 slice_bounds-result-end c = search rules
 
 returns-then-line-start : tie.Need-returns-then-line-start
-returns-then-line-start c = rw (drop_of_length-le _ c.before.if-line-start.true, take-nil)
+returns-then-line-start c = rw (drop_of_length-le _ c.if-line-start.true, take-nil)
 
 slice_bounds-result-end-then-end-start : tie.Need-slice_bounds-result-end-then-end-start
 slice_bounds-result-end-then-end-start c = search rules
 
 returns-then-end-start : tie.Need-returns-then-end-start
 returns-then-end-start c =
-    let a = c.before.before.before.args in
+    let a = c.args in
     let none : 0 ≡ a.end - a.start = omega arith in
     ap (λ (n : ℕ). take n (drop a.start a.line.now)) none
 
@@ -34,7 +34,7 @@ slice_bounds-result-end-then-line-end c = search rules
 
 returns-then-line-end : tie.Need-returns-then-line-end
 returns-then-line-end c =
-    let a = c.before.before.before.before.args in
+    let a = c.args in
     let left = length-drop a.start a.line.now in
     take_all (length a.line.now - a.start) _ (omega arith) ∙ sym (take_all (a.end - a.start) _ (omega arith))
 

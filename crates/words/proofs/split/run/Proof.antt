@@ -19,9 +19,9 @@ decreases-loop-i line from blank i₀ i = length line - i
 
 -- what the test of the byte at `i` said, said of the byte
 seen : (c : tie.After-is_separator invariant-loop-i decreases-loop-i) {b : Bool}
-    → beq c.is_separator.result c.before.before.before.before.before.args.blank ≡ b
-    → alike c.before.before.before.before.before.args.blank
-    (get_or c.before.before.before.before.before.args.line.now c.before.before.before.loop-i.i 0) ≡ b
+    → beq c.is_separator.result c.args.blank ≡ b
+    → alike c.args.blank
+    (get_or c.args.line.now c.loop-i.i 0) ≡ b
 seen c e = rw (← c.is_separator.ensures) e
 
 loop-i-init : tie.Need-loop-i-init invariant-loop-i decreases-loop-i
@@ -36,7 +36,7 @@ is_separator-requires c κs = search rules
 returns-then-is_separator-blank : tie.Need-returns-then-is_separator-blank invariant-loop-i decreases-loop-i
 returns-then-is_separator-blank c =
     let at-loop = c.before.before.before.before in
-    sym (at-loop.loop-i.invariant ∙ run_stop _ _ _ c.before.before.before.loop-i-test.true (seen c.before (not-true _ c.if-is_separator-blank.true)))
+    sym (at-loop.loop-i.invariant ∙ run_stop _ _ _ c.loop-i-test.true (seen c.before (not-true _ c.if-is_separator-blank.true)))
 
 overflow_add-i : tie.Need-overflow_add-i invariant-loop-i decreases-loop-i
 overflow_add-i c = search rules
@@ -47,10 +47,10 @@ loop-i-smaller c = search rules
 loop-i-preserved : tie.Need-loop-i-preserved invariant-loop-i decreases-loop-i
 loop-i-preserved c =
     let at-loop = c.before.before.before.before in
-    at-loop.loop-i.invariant ∙ run_on _ _ _ c.before.before.before.loop-i-test.true (seen c.before (not-false _ c.if-is_separator-blank.false))
+    at-loop.loop-i.invariant ∙ run_on _ _ _ c.loop-i-test.true (seen c.before (not-false _ c.if-is_separator-blank.false))
 
 returns : tie.Need-returns invariant-loop-i decreases-loop-i
-returns c = sym (c.before.loop-i.invariant ∙ run_out _ _ _ c.loop-i-test.false)
+returns c = sym (c.loop-i.invariant ∙ run_out _ _ _ c.loop-i-test.false)
 
 pub run_spec : {M : Type 1} → statement M
 run_spec =

@@ -10,7 +10,7 @@ use Rattle.words.proofs.stream.append.Statement.{statement}
 use Rattle.words.proofs.stream.append.Tie as tie
 
 returns-then-into-held : tie.Need-returns-then-into-held
-returns-then-into-held c = let a = c.before.before.before.args in full a.into-1.now a.held a.more.now c.if-into-held.true
+returns-then-into-held c = let a = c.args in full a.into.now a.held a.more.now c.if-into-held.true
 
 overflow_sub-room : tie.Need-overflow_sub-room
 overflow_sub-room c = search rules
@@ -26,8 +26,8 @@ shape_of-into-then-room-more c = search rules
 
 returns-then-room-more : tie.Need-returns-then-room-more
 returns-then-room-more c =
-    let a = c.before.before.before.before.before.before.before.before.args in
-    copied a.into-1.now a.held a.more.now (length a.into-1.now - a.held) (omega arith) (omega arith) refl _ c.before.before.copy.ensures
+    let a = c.args in
+    copied a.into.now a.held a.more.now (length a.into.now - a.held) (omega arith) (omega arith) refl _ c.copy.ensures
 
 copy-requires-2 : tie.Need-copy-requires-2
 copy-requires-2 c κs = search rules
@@ -40,12 +40,12 @@ shape_of-into c = search rules
 
 returns : tie.Need-returns
 returns c =
-    let a = c.before.before.before.before.before.before.before.before.args in
+    let a = c.args in
     let n = length a.more.now in
-    copied a.into-1.now a.held a.more.now n (omega arith) (omega arith)
-    (take_all n a.more.now (omega arith) ∙ sym (take_all (length a.into-1.now - a.held) a.more.now (omega arith)))
+    copied a.into.now a.held a.more.now n (omega arith) (omega arith)
+    (take_all n a.more.now (omega arith) ∙ sym (take_all (length a.into.now - a.held) a.more.now (omega arith)))
     _
-    c.before.before.copy-2.ensures
+    c.copy-2.ensures
 
 pub append_spec : {M : Type 1} → statement M
 append_spec =

@@ -27,7 +27,7 @@ slice_bounds-result-end : tie.Need-slice_bounds-result-end
 slice_bounds-result-end c = search rules
 
 returns-then-line-eq0 : tie.Need-returns-then-line-eq0
-returns-then-line-eq0 c = nothing c.before.before.args.line.now c.before.if-line-eq0.true
+returns-then-line-eq0 c = nothing c.args.line.now c.if-line-eq0.true
 
 overflow_sub-last : tie.Need-overflow_sub-last
 overflow_sub-last c = search rules
@@ -39,10 +39,10 @@ slice_bounds-result-end-then-line-last-eq13 : tie.Need-slice_bounds-result-end-t
 slice_bounds-result-end-then-line-last-eq13 c = sym (length-take-le _ _ (omega arith))
 
 returns-then-line-last-eq13 : tie.Need-returns-then-line-last-eq13
-returns-then-line-last-eq13 c = with_return c.before.before.before.before.args.line.now c.before.if-line-last-eq13.true
+returns-then-line-last-eq13 c = with_return c.args.line.now c.if-line-last-eq13.true
 
 returns : tie.Need-returns
-returns c = with_none c.before.before.before.args.line.now c.if-line-last-eq13.false
+returns c = with_none c.args.line.now c.if-line-last-eq13.false
 
 pub content_spec : {M : Type 1} → statement M
 content_spec =

@@ -35,7 +35,7 @@ loop-i-smaller c = omega arith
 loop-i-preserved : tie.Need-loop-i-preserved invariant-loop-i decreases-loop-i
 loop-i-preserved c =
     let here = c.before.before in
-    let a = here.before.args in
+    let a = here.args in
     let i = here.loop-i.i in
     let stored = get_or a.more.now i 0 in (
       omega arith,
@@ -48,9 +48,9 @@ shape_of-into c = omega arith
 
 returns : tie.Need-returns invariant-loop-i decreases-loop-i
 returns c =
-    let a = c.before.before.args in
-    let all : c.before.loop-i.i ≡ a.n = omega arith in
-    c.before.loop-i.invariant.1 ∙ ap (paste a.into.now a.at a.more.now) all
+    let a = c.args in
+    let all : c.loop-i.i ≡ a.n = omega arith in
+    c.loop-i.invariant.1 ∙ ap (paste a.into.now a.at a.more.now) all
 
 pub copy_spec : {M : Type 1} → statement M
 copy_spec =

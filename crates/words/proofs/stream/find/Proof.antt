@@ -25,7 +25,7 @@ bounds-bytes-i c = search rules
 returns-then-bytes-i : tie.Need-returns-then-bytes-i invariant-loop-i decreases-loop-i
 returns-then-bytes-i c =
     let here = c.before.before in
-    sym (here.before.loop-i.invariant ∙ run_stop _ _ _ here.loop-i-test.true (ap not (eq-eqb _ _ c.if-bytes-i.true)))
+    sym (here.loop-i.invariant ∙ run_stop _ _ _ here.loop-i-test.true (ap not (eq-eqb _ _ c.if-bytes-i.true)))
 
 overflow_add-i : tie.Need-overflow_add-i invariant-loop-i decreases-loop-i
 overflow_add-i c = search rules
@@ -36,10 +36,10 @@ loop-i-smaller c = search rules
 loop-i-preserved : tie.Need-loop-i-preserved invariant-loop-i decreases-loop-i
 loop-i-preserved c =
     let here = c.before.before in
-    here.before.loop-i.invariant ∙ run_on _ _ _ here.loop-i-test.true (ap not (ne_eqb _ _ c.if-bytes-i.false))
+    here.loop-i.invariant ∙ run_on _ _ _ here.loop-i-test.true (ap not (ne_eqb _ _ c.if-bytes-i.false))
 
 returns : tie.Need-returns invariant-loop-i decreases-loop-i
-returns c = sym (c.before.loop-i.invariant ∙ run_out _ _ _ c.loop-i-test.false)
+returns c = sym (c.loop-i.invariant ∙ run_out _ _ _ c.loop-i-test.false)
 
 pub find_spec : {M : Type 1} → statement M
 find_spec =
