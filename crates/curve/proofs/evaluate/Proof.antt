@@ -48,7 +48,7 @@ returns-in-Outside c =
     let k = c.before.before in
     let e = k.before in
     record {
-      refusal = position_refused e.check-refusal.ensures e.if-refusal-ne-DONE.false (sought_outside (subst (SoughtIn _ _ _ _) c.enum_told-1.given.1 (sought k)));
+      refusal = position_refused e.check-refusal.ensures e.if-refusal-ne-DONE.false (sought_outside (subst (SoughtIn _ _ _ _) c.in-Outside.is (sought k)));
       value = refused_answer (λ n. omega (arith, n));
     }
 
@@ -58,9 +58,9 @@ enum_known-spot c = search rules
 -- within the knots, and where in its piece
 spot : (c : tie.In-On-2)
     → let s = c.before.before.before.before.before.before in
-    let r = c.spot-1.given.0.0 in
+    let r = c.in-On.spot in
     WithinKnots s.args.knots.now s.args.position × SpotOn s.args.knots.now s.args.values.now s.args.slopes.now r.piece s.args.position r.left r.h r.z r.m r.n r.t
-spot c = sought_on (subst (SoughtIn _ _ _ _) c.spot-1.given.1 (sought c.before.before))
+spot c = sought_on (subst (SoughtIn _ _ _ _) c.in-On.is (sought c.before.before))
 
 -- where nothing refuses
 abbrev here : tie.In-On-2 → tie.Else-refusal-ne-DONE
@@ -76,7 +76,7 @@ handed c = returned w64 c.unit.type_inv c.unit.ensures.value
 value_on-value-requires : tie.Need-value_on-value-requires
 value_on-value-requires c κs =
     let k = c.before.before in
-    let r = k.spot-1.given.0.0 in
+    let r = k.in-On.spot in
     record { in_piece = subst (λ (U : ℤ). InPiece U r.h r.z r.m r.n r.t) (sym (handed c)) (inside_spot (accepted (here k)) (spot k).1); sfits = (spot k).1.right_fits }
 
 returns-in-On : tie.Need-returns-in-On
@@ -85,7 +85,7 @@ returns-in-On c =
     let k = u.before.before in
     let e = here k in
     let on = spot k in
-    let at = k.spot-1.given.0.0 in
+    let at = k.in-On.spot in
     record {
       refusal = none_refused e.check-refusal.ensures e.if-refusal-ne-DONE.left on.0;
       value =

@@ -26,18 +26,15 @@ overflow_mul-b : tie.Need-overflow_mul-b
 overflow_mul-b c = fits (given c) (search code depth 30 fits 9000) tt
 
 returns : tie.Need-returns
-returns c = record {
-  units_of = record {
+returns c = record { units_of = record {
     rise_is = plain_is {Γ = given c} (search code depth 30 fits 9000) tt;
     a_is = plain_is {Γ = given c} (search code depth 30 fits 9000) tt;
     b_is = plain_is {Γ = given c} (search code depth 30 fits 9000) tt;
-  };
-  moderate = record {
+  }; moderate = record {
     rise = sized (given c) (search code depth 30 fits 9000) tt;
     start = sized (given c) (search code depth 30 fits 9000) tt;
     end = sized (given c) (search code depth 30 fits 9000) tt;
-  };
-}
+  } }
 
 pub in_units_spec : {M : Type 1} → statement M
 in_units_spec = tie.close (tie.spec overflow_mul-rise overflow_cast-a overflow_mul-a overflow_cast-b overflow_mul-b returns)

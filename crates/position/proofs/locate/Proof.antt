@@ -44,7 +44,7 @@ returns-in-Outside c =
     let k = c.before.before in
     let e = k.before in
     record {
-      refusal = position_refused e.check-refusal.ensures e.if-refusal-ne-DONE.false (sought_outside (subst (SoughtIn _ _ _ _) c.enum_told-1.given.1 (sought k)));
+      refusal = position_refused e.check-refusal.ensures e.if-refusal-ne-DONE.false (sought_outside (subst (SoughtIn _ _ _ _) c.in-Outside.is (sought k)));
       piece = refused_answer (λ n. omega (arith, n));
     }
 
@@ -52,7 +52,7 @@ returns-in-On : tie.Need-returns-in-On
 returns-in-On c =
     let k = c.before.before.before in
     let e = k.before in
-    let on = sought_on (subst (SoughtIn _ _ _ _) c.spot-1.given.1 (sought k)) in
+    let on = sought_on (subst (SoughtIn _ _ _ _) c.in-On.is (sought k)) in
     record {
       refusal = none_refused e.check-refusal.ensures e.if-refusal-ne-DONE.false on.0;
       piece = right_answer e.if-refusal-ne-DONE.false on.1.belongs;

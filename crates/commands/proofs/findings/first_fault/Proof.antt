@@ -38,12 +38,12 @@ no_fault wides k = refl
 -- the word that a turn looks at, and what is found of it
 word : (c : tie.In-At invariant-loop-start decreases-loop-start)
     → Found c.args.line.now c.loop-start.at
-    c.start-1.given.0.0 c.start-1.given.0.1.0
-word c = a_word _ _ _ _ (sym c.next_word.ensures ∙ c.start-1.given.1)
+    c.in-At.start c.in-At.end
+word c = a_word _ _ _ _ (sym c.next_word.ensures ∙ c.in-At.is)
 
 seen : (c : tie.After-is_number invariant-loop-start decreases-loop-start) {found : Finding} → c.is_number.result ≡ found
     → is_number c.args.wides (c.loop-start.k + 1)
-    (part_of c.args.line.now c.start-1.given.0.0 c.start-1.given.0.1.0) ≡ found
+    (part_of c.args.line.now c.in-At.start c.in-At.end) ≡ found
 seen c e = ap (is_number _ _) (sym c.part.ensures) ∙ sym c.is_number.ensures ∙ e
 
 loop-start-init : tie.Need-loop-start-init invariant-loop-start decreases-loop-start
@@ -71,7 +71,7 @@ returns-in-Faulty : tie.Need-returns-in-Faulty invariant-loop-start decreases-lo
 returns-in-Faulty c =
     let found = c.before.before.before in
     let passed = found.before.before in
-    sym (passed.loop-start.invariant.0 ∙ ap (first_fault _ _) (word passed).first ∙ stops _ _ _ _ (seen found c.fault-1.given.1))
+    sym (passed.loop-start.invariant.0 ∙ ap (first_fault _ _) (word passed).first ∙ stops _ _ _ _ (seen found c.in-Faulty.is))
 
 enum_told-1 : tie.Need-enum_told-1 invariant-loop-start decreases-loop-start
 enum_told-1 c = search rules
@@ -84,7 +84,7 @@ loop-start-preserved c =
     let found = c.before.before in
     let passed = found.before.before in
     let f = word passed in
-    (passed.loop-start.invariant.0 ∙ ap (first_fault _ _) f.first ∙ goes_on _ _ _ _ (seen found c.enum_told-1.given.1), omega arith)
+    (passed.loop-start.invariant.0 ∙ ap (first_fault _ _) f.first ∙ goes_on _ _ _ _ (seen found c.in_default-is_number.is), omega arith)
 
 enum_told-in_default : tie.Need-enum_told-in_default invariant-loop-start decreases-loop-start
 enum_told-in_default c = search rules
@@ -92,7 +92,7 @@ enum_told-in_default c = search rules
 returns : tie.Need-returns invariant-loop-start decreases-loop-start
 returns c =
     let found = c.before.before in
-    sym (found.loop-start.invariant.0 ∙ ap (first_fault _ _) (no_word _ _ (sym found.next_word.ensures ∙ c.enum_told-in_default-1.given.1)) ∙ no_fault _ _)
+    sym (found.loop-start.invariant.0 ∙ ap (first_fault _ _) (no_word _ _ (sym found.next_word.ensures ∙ c.in_default.is)) ∙ no_fault _ _)
 
 pub first_fault_spec : {M : Type 1} → statement M
 first_fault_spec =

@@ -18,7 +18,7 @@ returns-in-Clear c = search rules
 
 returns-in-Faulty : tie.Need-returns-in-Faulty
 unfolding unless
-returns-in-Faulty c = sym (ap (λ (f : Finding). unless f c.args.command) c.found-1.given.1)
+returns-in-Faulty c = sym (ap (λ (f : Finding). unless f c.args.command) c.in-Faulty.is)
 
 pub unless_faulty_spec : {M : Type 1} → statement M
 unless_faulty_spec = tie.close (tie.spec enum_told-1 enum_known-found returns-in-Clear returns-in-Faulty)

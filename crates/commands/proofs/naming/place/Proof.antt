@@ -22,13 +22,13 @@ decreases-loop-start word names at₀ k₀ at k = length names - at
 -- the name that a turn looks at
 name : (c : tie.In-At invariant-loop-start decreases-loop-start)
     → Found c.args.names.now c.loop-start.at
-    c.start-1.given.0.0 c.start-1.given.0.1.0
-name c = a_word _ _ _ _ (sym c.next_word.ensures ∙ c.start-1.given.1)
+    c.in-At.start c.in-At.end
+name c = a_word _ _ _ _ (sym c.next_word.ensures ∙ c.in-At.is)
 
 -- whether the word is that name
 seen : (c : tie.After-same invariant-loop-start decreases-loop-start) {b : Bool} → c.same.result ≡ b
     → same c.args.word.now
-    (part_of c.args.names.now c.start-1.given.0.0 c.start-1.given.0.1.0) ≡ b
+    (part_of c.args.names.now c.in-At.start c.in-At.end) ≡ b
 seen c e = rw (← c.part.ensures) (compared c.same.result c.same.ensures.0 c.same.ensures.1 ∙ e)
 
 loop-start-init : tie.Need-loop-start-init invariant-loop-start decreases-loop-start
@@ -71,7 +71,7 @@ enum_told-1 c = search rules
 returns : tie.Need-returns invariant-loop-start decreases-loop-start
 returns c =
     let word = c.args.word.now in
-    let none = no_word _ _ (sym c.next_word.ensures ∙ c.enum_told-1.given.1) in
+    let none = no_word _ _ (sym c.next_word.ensures ∙ c.in_default.is) in
     omega (arith, c.loop-start.invariant.0, ap (place_of word) none ∙ no_place word)
 
 pub place_spec : {M : Type 1} → statement M

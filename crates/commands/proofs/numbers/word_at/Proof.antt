@@ -31,8 +31,8 @@ nowhere n e = rw e
 -- the word that a turn looks at
 word : (c : tie.In-At invariant-loop-start decreases-loop-start)
     → Found c.args.line.now c.loop-start.at
-    c.start-1.given.0.0 c.start-1.given.0.1.0
-word c = a_word _ _ _ _ (sym c.next_word.ensures ∙ c.start-1.given.1)
+    c.in-At.start c.in-At.end
+word c = a_word _ _ _ _ (sym c.next_word.ensures ∙ c.in-At.is)
 
 loop-start-init : tie.Need-loop-start-init invariant-loop-start decreases-loop-start
 loop-start-init c = (refl, omega arith)
@@ -69,7 +69,7 @@ slice_bounds-result-end c = search rules
 returns : tie.Need-returns invariant-loop-start decreases-loop-start
 returns c =
     let found = c.before.before.before in
-    let none = no_word _ _ (sym found.next_word.ensures ∙ c.enum_told-1.given.1) in
+    let none = no_word _ _ (sym found.next_word.ensures ∙ c.in_default.is) in
     sym (found.loop-start.invariant.0 ∙ nowhere _ none)
 
 pub word_at_spec : {M : Type 1} → statement M

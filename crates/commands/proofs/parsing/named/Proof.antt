@@ -73,37 +73,37 @@ unit-requires : tie.Need-unit-requires
 unit-requires c κs = search rules
 
 returns-in-0 : tie.Need-returns-in-0
-returns-in-0 c = arm c.before.before c.in_default.keys1 c.set.ensures
+returns-in-0 c = arm c.before.before c.in-0.is c.set.ensures
 
 returns-in-1 : tie.Need-returns-in-1
-returns-in-1 c = arm c.before.before c.in_default.keys2 c.set-in-1.ensures
+returns-in-1 c = arm c.before.before c.in-1.is c.set-in-1.ensures
 
 returns-in-2 : tie.Need-returns-in-2
-returns-in-2 c = arm c.before.before c.in_default.keys3 c.set-in-2.ensures
+returns-in-2 c = arm c.before.before c.in-2.is c.set-in-2.ensures
 
 returns-in-3 : tie.Need-returns-in-3
-returns-in-3 c = arm c.before.before c.in_default.keys4 c.show.ensures
+returns-in-3 c = arm c.before.before c.in-3.is c.show.ensures
 
 returns-in-4 : tie.Need-returns-in-4
-returns-in-4 c = arm c.before.before c.in_default.keys5 c.piece.ensures
+returns-in-4 c = arm c.before.before c.in-4.is c.piece.ensures
 
 returns-in-5 : tie.Need-returns-in-5
-returns-in-5 c = arm c.before.before c.in_default.keys6 c.alone.ensures
+returns-in-5 c = arm c.before.before c.in-5.is c.alone.ensures
 
 returns-in-6 : tie.Need-returns-in-6
-returns-in-6 c = arm c.before.before c.in_default.keys7 c.alone-in-6.ensures
+returns-in-6 c = arm c.before.before c.in-6.is c.alone-in-6.ensures
 
 returns-in-7 : tie.Need-returns-in-7
-returns-in-7 c = arm c.before.before c.in_default.keys8 c.at.ensures
+returns-in-7 c = arm c.before.before c.in-7.is c.at.ensures
 
 returns-in-8 : tie.Need-returns-in-8
-returns-in-8 c = arm c.before.before c.in_default.keys9 c.drive.ensures
+returns-in-8 c = arm c.before.before c.in-8.is c.drive.ensures
 
 returns-in-9 : tie.Need-returns-in-9
-returns-in-9 c = arm c.before.before c.in_default.keys10 c.change.ensures
+returns-in-9 c = arm c.before.before c.in-9.is c.change.ensures
 
 returns-in-10 : tie.Need-returns-in-10
-returns-in-10 c = arm c.before.before c.in_default.keys11 c.unit.ensures
+returns-in-10 c = arm c.before.before c.in-10.is c.unit.ensures
 
 returns-in_default : tie.Need-returns-in_default
 returns-in_default c = none_chosen (command_table (words c.before)) (Wrong NoCommand) (name c.before) (placed c.before) c.in_default.rest

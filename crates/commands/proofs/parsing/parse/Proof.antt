@@ -44,7 +44,7 @@ returns-in-At : tie.Need-returns-in-At
 returns-in-At c =
     let found = c.before.before.before.before in
     let asked = found.before in
-    let word = a_word _ _ _ _ (sym found.next_word.ensures ∙ c.start-1.given.1) in
+    let word = a_word _ _ _ _ (sym found.next_word.ensures ∙ c.in-At.is) in
     not_long asked.args.line.now asked.if-line-gt-LONGEST.false (sym asked.if-is_comment.false ∙ asked.is_comment.ensures)
     (c.named.ensures ∙ ap by_words (sym word.first))
 
@@ -53,7 +53,7 @@ returns-in-Nothing c =
     let found = c.before.before in
     let asked = found.before in
     not_long asked.args.line.now asked.if-line-gt-LONGEST.false (sym asked.if-is_comment.false ∙ asked.is_comment.ensures)
-    (ap by_words (sym (no_word _ _ (sym found.next_word.ensures ∙ c.enum_told-1.given.1))))
+    (ap by_words (sym (no_word _ _ (sym found.next_word.ensures ∙ c.in-Nothing.is))))
 
 pub parse_spec : {M : Type 1} → statement M
 parse_spec =

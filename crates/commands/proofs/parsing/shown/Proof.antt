@@ -16,16 +16,16 @@ place-requires : tie.Need-place-requires
 place-requires c κs = search rules
 
 returns-in-0 : tie.Need-returns-in-0
-returns-in-0 c = chosen_at shown_table _ _ (sym c.in_default.keys1 ∙ placed c.before) refl
+returns-in-0 c = chosen_at shown_table _ _ (sym c.in-0.is ∙ placed c.before) refl
 
 returns-in-1 : tie.Need-returns-in-1
-returns-in-1 c = chosen_at shown_table _ _ (sym c.in_default.keys2 ∙ placed c.before) refl
+returns-in-1 c = chosen_at shown_table _ _ (sym c.in-1.is ∙ placed c.before) refl
 
 returns-in-2 : tie.Need-returns-in-2
-returns-in-2 c = chosen_at shown_table _ _ (sym c.in_default.keys3 ∙ placed c.before) refl
+returns-in-2 c = chosen_at shown_table _ _ (sym c.in-2.is ∙ placed c.before) refl
 
 returns-in-3 : tie.Need-returns-in-3
-returns-in-3 c = chosen_at shown_table _ _ (sym c.in_default.keys4 ∙ placed c.before) refl
+returns-in-3 c = chosen_at shown_table _ _ (sym c.in-3.is ∙ placed c.before) refl
 
 returns-in_default : tie.Need-returns-in_default
 returns-in_default c = none_chosen shown_table _ _ (placed c.before) c.in_default.rest

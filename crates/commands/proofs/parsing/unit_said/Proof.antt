@@ -27,10 +27,10 @@ returns-in-Is c =
     c.unit_is.ensures ∙ ap unit_is (to_z-of_z fits) ∙ sym (ap unit_said said.given.1)
 
 returns-in-NotDecimal : tie.Need-returns-in-NotDecimal
-returns-in-NotDecimal c = sym (ap unit_said c.enum_told-1.given.1)
+returns-in-NotDecimal c = sym (ap unit_said c.in-NotDecimal.is)
 
 returns-in-TooLarge : tie.Need-returns-in-TooLarge
-returns-in-TooLarge c = sym (ap unit_said c.enum_told-in-TooLarge-1.given.1)
+returns-in-TooLarge c = sym (ap unit_said c.in-TooLarge.is)
 
 pub unit_said_spec : {M : Type 1} → statement M
 unit_said_spec =

@@ -44,7 +44,7 @@ enum_known-n c = search rules
 negated-requires : tie.Need-negated-requires
 negated-requires c κs =
     let read = c.before.before.before in
-    held 9223372036854775808 (digits_of (drop 1 (after_sign read))) _ (sym c.n-1.given.1 ∙ read.digits.ensures)
+    held 9223372036854775808 (digits_of (drop 1 (after_sign read))) _ (sym c.in-Is.is ∙ read.digits.ensures)
 
 enum_told-1 : tie.Need-enum_told-1
 enum_told-1 c = search rules
@@ -61,7 +61,7 @@ enum_known-n-in-Is-digits-2 c = search rules
 overflow_cast-result : tie.Need-overflow_cast-result
 overflow_cast-result c =
     let read = c.before.before.before in
-    let small = held 9223372036854775807 (digits_of (drop 0 (with_none read))) _ (sym c.n-in-Is-digits-2-1.given.1 ∙ read.digits-else-text-eq45.ensures) in
+    let small = held 9223372036854775807 (digits_of (drop 0 (with_none read))) _ (sym c.in-Is-digits.is ∙ read.digits-else-text-eq45.ensures) in
     record { sfits = lt_of_le_of_lt small (omega arith) }
 
 enum_told-in-NotDecimal-digits : tie.Need-enum_told-in-NotDecimal-digits
@@ -72,22 +72,22 @@ enum_told-in-TooLarge-digits c = search rules
 
 returns-in-Is : tie.Need-returns-in-Is
 returns-in-Is c =
-    ap Is (to_z-of_z (record { sfits = c.negated.type_inv }) ∙ c.negated.ensures) ∙ negative c.before.before.before.before c.n-1.given.1
+    ap Is (to_z-of_z (record { sfits = c.negated.type_inv }) ∙ c.negated.ensures) ∙ negative c.before.before.before.before c.in-Is.is
 
 returns-in-NotDecimal : tie.Need-returns-in-NotDecimal
-returns-in-NotDecimal c = negative c.before.before c.enum_told-1.given.1
+returns-in-NotDecimal c = negative c.before.before c.in-NotDecimal.is
 
 returns-in-TooLarge : tie.Need-returns-in-TooLarge
-returns-in-TooLarge c = negative c.before.before c.enum_told-in-TooLarge-1.given.1
+returns-in-TooLarge c = negative c.before.before c.in-TooLarge.is
 
 returns-in-Is-digits : tie.Need-returns-in-Is-digits
-returns-in-Is-digits c = ap Is (to_z-of_z (overflow_cast-result c)) ∙ positive c.before.before.before c.n-in-Is-digits-2-1.given.1
+returns-in-Is-digits c = ap Is (to_z-of_z (overflow_cast-result c)) ∙ positive c.before.before.before c.in-Is-digits.is
 
 returns-in-NotDecimal-digits : tie.Need-returns-in-NotDecimal-digits
-returns-in-NotDecimal-digits c = positive c.before.before c.enum_told-in-NotDecimal-digits-1.given.1
+returns-in-NotDecimal-digits c = positive c.before.before c.in-NotDecimal-digits.is
 
 returns-in-TooLarge-digits : tie.Need-returns-in-TooLarge-digits
-returns-in-TooLarge-digits c = positive c.before.before c.enum_told-in-TooLarge-digits-1.given.1
+returns-in-TooLarge-digits c = positive c.before.before c.in-TooLarge-digits.is
 
 pub whole_spec : {M : Type 1} → statement M
 whole_spec =

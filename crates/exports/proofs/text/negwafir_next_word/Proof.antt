@@ -14,10 +14,10 @@ enum_told-1 : tie.Need-enum_told-1
 enum_told-1 c = search rules
 
 returns-in-At : tie.Need-returns-in-At
-returns-in-At c = rw (← c.next_word.ensures, c.start-1.given.1) found
+returns-in-At c = rw (← c.next_word.ensures, c.in-At.is) found
 
 returns-in-Nothing : tie.Need-returns-in-Nothing
-returns-in-Nothing c = rw (← c.next_word.ensures, c.enum_told-1.given.1) nothing
+returns-in-Nothing c = rw (← c.next_word.ensures, c.in-Nothing.is) nothing
 
 pub negwafir_next_word_spec : {M : Type 1} → statement M
 negwafir_next_word_spec =

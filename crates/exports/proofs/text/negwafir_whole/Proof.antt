@@ -21,14 +21,14 @@ enum_told-in-TooLarge c = search rules
 
 returns-in-Is : tie.Need-returns-in-Is
 returns-in-Is c =
-    let fits : SFits w64 c.value-1.given.0.0 = search rules in
-    rw (to_z-of_z fits, ← c.whole.ensures, c.value-1.given.1) whole
+    let fits : SFits w64 c.in-Is.value = search rules in
+    rw (to_z-of_z fits, ← c.whole.ensures, c.in-Is.is) whole
 
 returns-in-NotDecimal : tie.Need-returns-in-NotDecimal
-returns-in-NotDecimal c = rw (← c.whole.ensures, c.enum_told-1.given.1) not_decimal
+returns-in-NotDecimal c = rw (← c.whole.ensures, c.in-NotDecimal.is) not_decimal
 
 returns-in-TooLarge : tie.Need-returns-in-TooLarge
-returns-in-TooLarge c = rw (← c.whole.ensures, c.enum_told-in-TooLarge-1.given.1) too_large
+returns-in-TooLarge c = rw (← c.whole.ensures, c.in-TooLarge.is) too_large
 
 pub negwafir_whole_spec : {M : Type 1} → statement M
 negwafir_whole_spec =

@@ -17,12 +17,12 @@ enum_told-1 c = search rules
 
 returns-in-At : tie.Need-returns-in-At
 returns-in-At c =
-    let found = a_word _ _ _ _ (sym c.next_word.ensures ∙ c.end-1.given.1) in
+    let found = a_word _ _ _ _ (sym c.next_word.ensures ∙ c.in-At.is) in
     sym (ap (drop 1) found.first)
 
 returns-in-Nothing : tie.Need-returns-in-Nothing
 returns-in-Nothing c =
-    let none = no_word _ _ (sym c.next_word.ensures ∙ c.enum_told-1.given.1) in
+    let none = no_word _ _ (sym c.next_word.ensures ∙ c.in-Nothing.is) in
     none ∙ sym (ap (drop 1) none)
 
 pub behind_first_spec : {M : Type 1} → statement M

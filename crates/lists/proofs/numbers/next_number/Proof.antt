@@ -23,7 +23,7 @@ enum_told-1 : tie.Need-enum_told-1
 enum_told-1 c = search rules
 
 returns-in_default : tie.Need-returns-in_default
-returns-in_default c = no_word_says (no_word _ _ (sym c.next_word.ensures ∙ c.enum_told-1.given.1))
+returns-in_default c = no_word_says (no_word _ _ (sym c.next_word.ensures ∙ c.in_default.is))
 
 part-requires : tie.Need-part-requires
 part-requires c κs = search rules
@@ -42,30 +42,30 @@ enum_told-in-TooLarge c = search rules
 
 -- the word, and what it says
 word : (c : tie.In-At) → Found c.args.line.now c.args.from
-    c.start-1.given.0.0 c.start-1.given.0.1.0
-word c = a_word _ _ _ _ (sym c.next_word.ensures ∙ c.start-1.given.1)
+    c.in-At.start c.in-At.end
+word c = a_word _ _ _ _ (sym c.next_word.ensures ∙ c.in-At.is)
 
 said : (c : tie.After-whole32) → c.whole32.result
-    ≡ number32_of (part_of c.args.line.now c.start-1.given.0.0 c.start-1.given.0.1.0)
+    ≡ number32_of (part_of c.args.line.now c.in-At.start c.in-At.end)
 said c = c.whole32.ensures ∙ ap number32_of c.part.ensures
 
 returns-in-Is : tie.Need-returns-in-Is
 returns-in-Is c =
     let at = c.before.before.before in
     let s = at.before.before.before.before.before.before.before in
-    let fits : SFits w32 c.n-1.given.0.0 = search rules in
-    a_word_says (word at.before.before).first (sym c.n-1.given.1 ∙ said at)
-    ∙ sym (ap (λ (n : ℤ). numbers_next s.args.line.now (Is n at.start-1.given.0.1.0)) (to_z-of_z fits))
+    let fits : SFits w32 c.in-Is.n = search rules in
+    a_word_says (word at.before.before).first (sym c.in-Is.is ∙ said at)
+    ∙ sym (ap (λ (n : ℤ). numbers_next s.args.line.now (Is n at.in-At.end)) (to_z-of_z fits))
 
 returns-in-NotDecimal : tie.Need-returns-in-NotDecimal
 returns-in-NotDecimal c =
     let at = c.before.before in
-    a_word_says (word at.before.before).first (sym c.enum_told-in-NotDecimal-1.given.1 ∙ said at)
+    a_word_says (word at.before.before).first (sym c.in-NotDecimal.is ∙ said at)
 
 returns-in-TooLarge : tie.Need-returns-in-TooLarge
 returns-in-TooLarge c =
     let at = c.before.before in
-    a_word_says (word at.before.before).first (sym c.enum_told-in-TooLarge-1.given.1 ∙ said at)
+    a_word_says (word at.before.before).first (sym c.in-TooLarge.is ∙ said at)
 
 pub next_number_spec : {M : Type 1} → statement M
 next_number_spec =

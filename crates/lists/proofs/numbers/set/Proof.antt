@@ -46,7 +46,7 @@ shape_of-list-in_default c = c.loop-n.invariant.as_long
 returns-in_default : tie.Need-returns-in_default invariant-loop-n decreases-loop-n
 returns-in_default c =
     let next = c.before.before in
-    all_placed _ _ _ _ _ next.loop-n.invariant (next.next_number.ensures ∙ ap (numbers_next _) c.enum_told-1.given.1)
+    all_placed _ _ _ _ _ next.loop-n.invariant (next.next_number.ensures ∙ ap (numbers_next _) c.in_default.is)
 
 offset_bounds-list-n : tie.Need-offset_bounds-list-n invariant-loop-n decreases-loop-n
 offset_bounds-list-n c = let p = c.loop-n.invariant in search rules
@@ -66,10 +66,10 @@ loop-n-preserved c =
     let a = at.args in
     let l = at.loop-n in
     let numbers = numbers_of (drop 1 (words_of a.line.now)) in
-    let end = c.number-1.given.0.1.0 in
-    let n = c.number-1.given.0.0 in
+    let end = c.in-Is.end in
+    let n = c.in-Is.number in
     let fits : SFits w32 n = search rules in
-    let left = c.next_number.ensures ∙ ap (numbers_next a.line.now) c.number-1.given.1 in
+    let left = c.next_number.ensures ∙ ap (numbers_next a.line.now) c.in-Is.is in
     let next = subst (λ (ns : List ℤ). Placing a.list.now numbers l.list l.n ns) left l.invariant in
     subst⁻¹ (λ (z : ℤ). Placing a.list.now numbers (set l.list l.n z) (l.n + 1) (numbers_of (words_of (drop end a.line.now)))) (to_z-of_z fits)
     (one_placed _ _ _ _ _ _ next (omega arith))

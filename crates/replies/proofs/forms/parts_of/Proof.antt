@@ -72,11 +72,11 @@ with_naturals-requires-in-SlopeUnit c κs = search rules
 
 returns-in-Silent : tie.Need-returns-in-Silent
 unfolding filled line_of
-returns-in-Silent c = says line_of c.nothing.ensures c.enum_told-1.given.1 refl
+returns-in-Silent c = says line_of c.nothing.ensures c.in-Silent.is refl
 
 returns-in-Wrong : tie.Need-returns-in-Wrong
 unfolding line_of
-returns-in-Wrong c = known line_of c.reply-1.given.1 c.parts_of_fault.ensures
+returns-in-Wrong c = known line_of c.in-Wrong.is c.parts_of_fault.ensures
 
 returns-in-Done : tie.Need-returns-in-Done
 unfolding filled line_of
@@ -86,11 +86,11 @@ returns-in-Done c =
 
 returns-in-Count : tie.Need-returns-in-Count
 unfolding filled line_of
-returns-in-Count c = says line_of c.with_naturals-in-Count.ensures c.reply-in-Count-1.given.1 refl
+returns-in-Count c = says line_of c.with_naturals-in-Count.ensures c.in-Count.is refl
 
 returns-in-Judged : tie.Need-returns-in-Judged
 unfolding line_of
-returns-in-Judged c = known line_of c.reply-in-Judged-1.given.1 c.parts_of_verdict.ensures
+returns-in-Judged c = known line_of c.in-Judged.is c.parts_of_verdict.ensures
 
 returns-in-Valued : tie.Need-returns-in-Valued
 unfolding filled line_of
@@ -110,7 +110,7 @@ returns-in-Driven c =
 
 returns-in-SlopeUnit : tie.Need-returns-in-SlopeUnit
 unfolding filled line_of
-returns-in-SlopeUnit c = says line_of c.with_naturals-in-SlopeUnit.ensures c.reply-in-SlopeUnit-1.given.1 refl
+returns-in-SlopeUnit c = says line_of c.with_naturals-in-SlopeUnit.ensures c.in-SlopeUnit.is refl
 
 pub parts_of_spec : {M : Type 1} → statement M
 parts_of_spec =

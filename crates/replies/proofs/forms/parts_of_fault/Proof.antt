@@ -62,39 +62,39 @@ with_naturals-requires-in-BeyondUnsigned c κs = search rules
 
 returns-in-TooLong : tie.Need-returns-in-TooLong
 unfolding filled fault_line
-returns-in-TooLong c = says (fault_line _) c.with_naturals.ensures c.enum_told-1.given.1 refl
+returns-in-TooLong c = says (fault_line _) c.with_naturals.ensures c.in-TooLong.is refl
 
 returns-in-NoCommand : tie.Need-returns-in-NoCommand
 unfolding filled fault_line
-returns-in-NoCommand c = says (fault_line _) c.with_naturals-in-NoCommand.ensures c.enum_told-in-NoCommand-1.given.1 refl
+returns-in-NoCommand c = says (fault_line _) c.with_naturals-in-NoCommand.ensures c.in-NoCommand.is refl
 
 returns-in-TooFew : tie.Need-returns-in-TooFew
 unfolding filled fault_line
-returns-in-TooFew c = says (fault_line _) c.with_naturals-in-TooFew.ensures c.enum_told-in-TooFew-1.given.1 refl
+returns-in-TooFew c = says (fault_line _) c.with_naturals-in-TooFew.ensures c.in-TooFew.is refl
 
 returns-in-TooMany : tie.Need-returns-in-TooMany
 unfolding filled fault_line
-returns-in-TooMany c = says (fault_line _) c.with_naturals-in-TooMany.ensures c.enum_told-in-TooMany-1.given.1 refl
+returns-in-TooMany c = says (fault_line _) c.with_naturals-in-TooMany.ensures c.in-TooMany.is refl
 
 returns-in-NoList : tie.Need-returns-in-NoList
 unfolding filled fault_line
-returns-in-NoList c = says (fault_line _) c.with_naturals-in-NoList.ensures c.enum_told-in-NoList-1.given.1 refl
+returns-in-NoList c = says (fault_line _) c.with_naturals-in-NoList.ensures c.in-NoList.is refl
 
 returns-in-NotDecimal : tie.Need-returns-in-NotDecimal
 unfolding filled fault_line
-returns-in-NotDecimal c = says (fault_line _) c.with_naturals-in-NotDecimal.ensures c.fault-1.given.1 refl
+returns-in-NotDecimal c = says (fault_line _) c.with_naturals-in-NotDecimal.ensures c.in-NotDecimal.is refl
 
 returns-in-Beyond32 : tie.Need-returns-in-Beyond32
 unfolding filled fault_line
-returns-in-Beyond32 c = says (fault_line _) c.with_naturals-in-Beyond32.ensures c.fault-in-Beyond32-1.given.1 refl
+returns-in-Beyond32 c = says (fault_line _) c.with_naturals-in-Beyond32.ensures c.in-Beyond32.is refl
 
 returns-in-Beyond64 : tie.Need-returns-in-Beyond64
 unfolding filled fault_line
-returns-in-Beyond64 c = says (fault_line _) c.with_naturals-in-Beyond64.ensures c.fault-in-Beyond64-1.given.1 refl
+returns-in-Beyond64 c = says (fault_line _) c.with_naturals-in-Beyond64.ensures c.in-Beyond64.is refl
 
 returns-in-BeyondUnsigned : tie.Need-returns-in-BeyondUnsigned
 unfolding filled fault_line
-returns-in-BeyondUnsigned c = says (fault_line _) c.with_naturals-in-BeyondUnsigned.ensures c.fault-in-BeyondUnsigned-1.given.1 refl
+returns-in-BeyondUnsigned c = says (fault_line _) c.with_naturals-in-BeyondUnsigned.ensures c.in-BeyondUnsigned.is refl
 
 pub parts_of_fault_spec : {M : Type 1} → statement M
 parts_of_fault_spec =

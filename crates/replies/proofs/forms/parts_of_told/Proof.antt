@@ -33,7 +33,7 @@ with_numbers-requires c κs = search rules
 
 returns-in-Dwell : tie.Need-returns-in-Dwell
 unfolding filled
-returns-in-Dwell c = says told_line (c.with_number.ensures ∙ ap (λ (level : Signed). numbers 18 level (natural_as 0) (natural_as 0)) c.float.ensures) c.answer-1.given.1 refl
+returns-in-Dwell c = says told_line (c.with_number.ensures ∙ ap (λ (level : Signed). numbers 18 level (natural_as 0) (natural_as 0)) c.float.ensures) c.in-Dwell.is refl
 
 returns-in-Move : tie.Need-returns-in-Move
 unfolding filled
@@ -43,7 +43,7 @@ returns-in-Move c =
     let first = second.before in
     says told_line
     (c.with_numbers.ensures ∙ ap (λ (left : Signed). numbers 19 left second.float-in-Move-2.result third.float-in-Move-3.result) first.float-in-Move.ensures ∙ ap₂ (numbers 19 _) second.float-in-Move-2.ensures third.float-in-Move-3.ensures)
-    first.answer-in-Move-1.given.1
+    first.in-Move.is
     refl
 
 pub parts_of_told_spec : {M : Type 1} → statement M

@@ -38,23 +38,23 @@ parts_of_refusal-requires c κs = search rules
 
 returns-in-Rising : tie.Need-returns-in-Rising
 unfolding filled
-returns-in-Rising c = says verdict_line c.with_naturals.ensures c.enum_told-1.given.1 refl
+returns-in-Rising c = says verdict_line c.with_naturals.ensures c.in-Rising.is refl
 
 returns-in-Falling : tie.Need-returns-in-Falling
 unfolding filled
-returns-in-Falling c = says verdict_line c.with_naturals-in-Falling.ensures c.enum_told-in-Falling-1.given.1 refl
+returns-in-Falling c = says verdict_line c.with_naturals-in-Falling.ensures c.in-Falling.is refl
 
 returns-in-Flat : tie.Need-returns-in-Flat
 unfolding filled
-returns-in-Flat c = says verdict_line c.with_naturals-in-Flat.ensures c.enum_told-in-Flat-1.given.1 refl
+returns-in-Flat c = says verdict_line c.with_naturals-in-Flat.ensures c.in-Flat.is refl
 
 returns-in-Bends : tie.Need-returns-in-Bends
 unfolding filled
-returns-in-Bends c = says verdict_line c.with_naturals-in-Bends.ensures c.enum_told-in-Bends-1.given.1 refl
+returns-in-Bends c = says verdict_line c.with_naturals-in-Bends.ensures c.in-Bends.is refl
 
 returns-in-Refused : tie.Need-returns-in-Refused
 unfolding filled
-returns-in-Refused c = says verdict_line c.parts_of_refusal.ensures c.verdict-1.given.1 refl
+returns-in-Refused c = says verdict_line c.parts_of_refusal.ensures c.in-Refused.is refl
 
 pub parts_of_verdict_spec : {M : Type 1} → statement M
 parts_of_verdict_spec =

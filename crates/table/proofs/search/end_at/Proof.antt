@@ -53,7 +53,7 @@ module _ (c : tie.After-slope-slope) where
 returns-in-Now : tie.Need-returns-in-Now
 returns-in-Now c =
     let e = c.before.before in
-    is_end e.before.before Now e.enum_told-1.given.1 (as_read c.entry.type_inv c.entry.ensures) (as_read c.entry-in-Now.type_inv c.entry-in-Now.ensures)
+    is_end e.before.before Now e.in-Now.is (as_read c.entry.type_inv c.entry.ensures) (as_read c.entry-in-Now.type_inv c.entry-in-Now.ensures)
 
 returns-in-After : tie.Need-returns-in-After
 returns-in-After c =
@@ -61,8 +61,8 @@ returns-in-After c =
     let e = k.before.before.before in
     let p = e.before.before in
     let a = p.args in
-    let d = e.points-1.given.0.0 in
-    is_end p (After d) e.points-1.given.1
+    let d = e.in-After.c in
+    is_end p (After d) e.in-After.is
     (as_read k.entry-in-After.type_inv (subst (λ (l : List ℤ). Read (entry l a.i) k.entry-in-After.result) (as_it_came a.knots.now d.point (record { sfits = k.struct_told-1.given.1.0.1 })) k.entry-in-After.ensures))
     (as_read c.entry-in-After-2.type_inv (subst (λ (l : List ℤ). Read (entry l a.i) c.entry-in-After-2.result) (as_it_came a.values.now d.point (record { sfits = c.struct_told-in-After-1.given.1.1.0.1 })) c.entry-in-After-2.ensures))
 

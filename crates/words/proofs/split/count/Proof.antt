@@ -19,8 +19,8 @@ decreases-loop-end line from at₀ n₀ at n = length line - at
 -- the word that a turn passes
 word : (c : tie.In-At invariant-loop-end decreases-loop-end)
     → Found c.args.line.now c.loop-end.at
-    c.end-1.given.0.0 c.end-1.given.0.1.0
-word c = a_word _ _ _ _ (sym c.next_word.ensures ∙ c.end-1.given.1)
+    c.in-At.start c.in-At.end
+word c = a_word _ _ _ _ (sym c.next_word.ensures ∙ c.in-At.is)
 
 loop-end-init : tie.Need-loop-end-init invariant-loop-end decreases-loop-end
 loop-end-init c = (omega arith, omega arith)
@@ -47,7 +47,7 @@ enum_told-1 c = search rules
 
 returns : tie.Need-returns invariant-loop-end decreases-loop-end
 returns c =
-    let none = no_word _ _ (sym c.next_word.ensures ∙ c.enum_told-1.given.1) in
+    let none = no_word _ _ (sym c.next_word.ensures ∙ c.in_default.is) in
     omega (arith, ap length none)
 
 pub count_spec : {M : Type 1} → statement M
