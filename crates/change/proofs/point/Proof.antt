@@ -96,7 +96,7 @@ unit-requires c κs = let d = c.before.before in unit_then_and_before (start d).
 
 -- the unit, as it is handed on
 handed : (c : tie.After-unit) → to_z w64 (of_z w64 c.unit.result) ≡ unit (start c.before.before.before).args.s
-handed c = returned w64 c.unit.type_inv c.unit.ensures.value
+handed c = returned w64 c.unit.type_inv c.unit.ensures.0
 
 renew-requires : tie.Need-renew-requires
 renew-requires c κs =
@@ -104,7 +104,13 @@ renew-requires c κs =
     let e = u.before in
     let d = e.before.before in
     let s = (start d).args in
-    let list = s.knots.now in record { unit_size = as_coded₁ (known_unit u.unit.result u.unit.ensures.unit_size ∷ []) UnitSize (search arguments depth 30 fits 9000) tt u.unit.ensures.unit_size; points_within = subst₂ PointsWithin (sym (new_knots (told e))) (sym (new_values (told e))) (accepted_then s.change (old (start d)) e.if-refusal-ne-DONE.false (given d)); slopes_len = (lists e).slopes-1 ∙ sym (length-set list s.change.point _); k_in_bounds = lt-length-set list s.change.point _ (there e) }
+    let list = s.knots.now in (
+      as_coded₁ (known_unit u.unit.result u.unit.ensures.1 ∷ []) UnitSize (search arguments depth 30 fits 9000) tt u.unit.ensures.1,
+      (
+        subst₂ PointsWithin (sym (new_knots (told e))) (sym (new_values (told e))) (accepted_then s.change (old (start d)) e.if-refusal-ne-DONE.false (given d)),
+        ((lists e).slopes-1 ∙ sym (length-set list s.change.point _), lt-length-set list s.change.point _ (there e)),
+      ),
+    )
 
 shape_of-knots : tie.Need-shape_of-knots
 shape_of-knots c = search rules

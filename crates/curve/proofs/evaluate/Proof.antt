@@ -32,7 +32,7 @@ accepted : (c : tie.Else-refusal-ne-DONE) → Accepted (curve_of c.before.before
 accepted c = accepted_table c.if-refusal-ne-DONE.false c.check-refusal.ensures
 
 seek-requires : tie.Need-seek-requires
-seek-requires c κs = record { points_within = (accepted c).limits; slopes_len = (accepted c).slopes }
+seek-requires c κs = ((accepted c).limits, (accepted c).slopes)
 
 -- where the position lies, said of the position itself
 sought : (c : tie.After-seek) → let a = c.args in SoughtIn a.knots.now a.values.now a.slopes.now c.args.position c.seek.result
@@ -71,13 +71,13 @@ unit-requires c κs = (accepted (here c.before)).unit
 
 -- the unit, as it is handed on
 handed : (c : tie.After-unit) → to_z w64 (of_z w64 c.unit.result) ≡ unit (here c.before.before).args.s
-handed c = returned w64 c.unit.type_inv c.unit.ensures.value
+handed c = returned w64 c.unit.type_inv c.unit.ensures.0
 
 value_on-value-requires : tie.Need-value_on-value-requires
 value_on-value-requires c κs =
     let k = c.before.before in
     let r = k.in-On.spot in
-    record { in_piece = subst (λ (U : ℤ). InPiece U r.h r.z r.m r.n r.t) (sym (handed c)) (inside_spot (accepted (here k)) (spot k).1); sfits = (spot k).1.right_fits }
+    (subst (λ (U : ℤ). InPiece U r.h r.z r.m r.n r.t) (sym (handed c)) (inside_spot (accepted (here k)) (spot k).1), (spot k).1.right_fits)
 
 returns-in-On : tie.Need-returns-in-On
 returns-in-On c =

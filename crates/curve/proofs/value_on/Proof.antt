@@ -21,7 +21,7 @@ spot : (c : tie.After-struct_told-1) → let p = c.args.p in Held c.args.unit p.
 spot c = held_fields c.ranges.unit c.struct_told-1.given
 
 risen-risen-requires : tie.Need-risen-risen-requires
-risen-risen-requires c κs = let p = c.before.before.before.before in as_held InPiece (spot p) p.requires.in_piece
+risen-risen-requires c κs = let p = c.before.before.before.before in as_held InPiece (spot p) p.requires.0
 
 has_risen : (c : tie.After-risen-risen) → let s = c.args in c.risen-risen.result ≡ risen s.unit s.p.h s.p.z s.p.m s.p.n s.p.t
 has_risen c = of_held (λ (U h z m n t : ℤ). c.risen-risen.result ≡ risen U h z m n t) (spot c.before.before.before.before.before) c.risen-risen.ensures
@@ -31,13 +31,13 @@ has_risen c = of_held (λ (U h z m n t : ℤ). c.risen-risen.result ≡ risen U 
 abbrev summands : tie.After-risen-risen → List Known
 summands c =
     let p = c.before.before.before.before.before in
-    held w32 p.args.p.left (spot p).left_fits ∷ known c.risen-risen.result 1048576 (subst (Within 1048576) (sym (has_risen c)) (risen_within p.requires.in_piece)) ∷ []
+    held w32 p.args.p.left (spot p).left_fits ∷ known c.risen-risen.result 1048576 (subst (Within 1048576) (sym (has_risen c)) (risen_within p.requires.0)) ∷ []
 
 value_fits_32 : (c : tie.After-risen-risen) → let s = c.args in SFits w32 (s.p.left +ℤ risen s.unit s.p.h s.p.z s.p.m s.p.n s.p.t)
 value_fits_32 c =
     let p = c.before.before.before.before.before in
     let s = p.before in
-    value_fits s.requires.in_piece w32 {right = s.args.p.left +ℤ s.args.p.z} (across s.args.p.left s.args.p.z) (spot p).left_fits s.requires.sfits
+    value_fits s.requires.0 w32 {right = s.args.p.left +ℤ s.args.p.z} (across s.args.p.left s.args.p.z) (spot p).left_fits s.requires.1
   where
     across : (l z : ℤ) → z ≡ l +ℤ z -ℤ l
     across l z = lin (l ∷ z ∷ []) (search says depth 30 fits 9000) (omega arith)

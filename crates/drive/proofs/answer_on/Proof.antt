@@ -23,7 +23,7 @@ given s = known_width s.args.p.h s.requires.width ∷ known_rise s.args.p.z s.re
 too_large-requires : tie.Need-too_large-requires
 too_large-requires c κs =
     let s = c.before.before in
-    record { width_within = as_coded₁ (given s) WidthWithin (search arguments depth 30 fits 9000) tt s.requires.width; rise_within = as_coded₁ (given s) RiseWithin (search arguments depth 30 fits 9000) tt s.requires.rise }
+    (as_coded₁ (given s) WidthWithin (search arguments depth 30 fits 9000) tt s.requires.width, as_coded₁ (given s) RiseWithin (search arguments depth 30 fits 9000) tt s.requires.rise)
 
 -- whether the piece is too large, said of the piece itself
 large : (c : tie.After-too_large) → let s = c.args.p in Decided (TooLarge s.h s.z) c.too_large.result
@@ -38,14 +38,14 @@ returns-then-too_large c =
     let t = c.before in
     let a = t.args in
     let p = a.p in
-    subst₂ (λ (r : Refusal) (t : Telling). AnsweredOn a.unit p.piece p.left p.h p.z p.m p.n p.t r.number r.place t) (sym c.refused.ensures.refusal_value) (sym c.refused.ensures.answer_value)
+    subst₂ (λ (r : Refusal) (t : Telling). AnsweredOn a.unit p.piece p.left p.h p.z p.m p.n p.t r.number r.place t) (sym c.refused.ensures.0) (sym c.refused.ensures.1)
     (refused_there (told (large t.before) t.if-too_large.true))
 
 told-answer-requires : tie.Need-told-answer-requires
 told-answer-requires c κs =
     let s = c.before.before.before.before in
     let p = s.args.p in
-    record { in_piece = subst (λ (U : ℤ). InPiece U p.h p.z p.m p.n p.t) (sym (to_z-of_z s.ranges.unit)) s.requires; fact = denied (large c.before) c.if-too_large.false }
+    (subst (λ (U : ℤ). InPiece U p.h p.z p.m p.n p.t) (sym (to_z-of_z s.ranges.unit)) s.requires, denied (large c.before) c.if-too_large.false)
 
 returns : tie.Need-returns
 returns c =

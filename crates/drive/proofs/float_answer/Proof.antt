@@ -45,13 +45,13 @@ rests {t} {x} e f n g =
 returns-then-refusal-ne-DONE : tie.Need-returns-then-refusal-ne-DONE
 returns-then-refusal-ne-DONE c =
     let e = c.before in
-    rests c.refused.ensures.refusal_value c.refused.ensures.answer_value e.if-refusal-ne-DONE.true (table_refused e.check-refusal.ensures e.if-refusal-ne-DONE.true)
+    rests c.refused.ensures.0 c.refused.ensures.1 e.if-refusal-ne-DONE.true (table_refused e.check-refusal.ensures e.if-refusal-ne-DONE.true)
 
 accepted : (c : tie.Else-refusal-ne-DONE) → Accepted (curve_of c.before.before.before)
 accepted c = accepted_table c.if-refusal-ne-DONE.false c.check-refusal.ensures
 
 seek-requires : tie.Need-seek-requires
-seek-requires c κs = record { points_within = (accepted c).limits; slopes_len = (accepted c).slopes }
+seek-requires c κs = ((accepted c).limits, (accepted c).slopes)
 
 -- where the position lies, said of the position itself
 sought : (c : tie.After-seek) → let a = c.args in SoughtIn a.knots.now a.values.now a.slopes.now c.args.position c.seek.result
@@ -66,7 +66,7 @@ returns-in-Outside : tie.Need-returns-in-Outside
 returns-in-Outside c =
     let k = c.before.before.before in
     let e = k.before in
-    rests c.refused-in-Outside.ensures.refusal_value c.refused-in-Outside.ensures.answer_value (λ n. omega (arith, n))
+    rests c.refused-in-Outside.ensures.0 c.refused-in-Outside.ensures.1 (λ n. omega (arith, n))
     (position_refused e.check-refusal.ensures e.if-refusal-ne-DONE.false (sought_outside (subst (SoughtIn _ _ _ _) c.in-Outside.is (sought k))))
 
 -- ---- answered in the position's piece
@@ -90,7 +90,7 @@ unit-requires c κs = (accepted (here c.before)).unit
 
 -- the unit, as it is handed on
 handed : (c : tie.After-unit) → to_z w64 (of_z w64 c.unit.result) ≡ unit (here c.before.before).args.s
-handed c = returned w64 c.unit.type_inv c.unit.ensures.value
+handed c = returned w64 c.unit.type_inv c.unit.ensures.0
 
 answer_on-requires : tie.Need-answer_on-requires
 answer_on-requires c κs =

@@ -22,17 +22,23 @@ use Rattle.drive.proofs.moving.Tie as tie
 
 abbrev given : tie.Start → List Known
 given s =
-    known_unit s.args.unit s.requires.in_piece.unit
-    ∷ known_width s.args.h s.requires.in_piece.width
-    ∷ known_rise s.args.z s.requires.in_piece.rise
+    known_unit s.args.unit s.requires.0.unit
+    ∷ known_width s.args.h s.requires.0.width
+    ∷ known_rise s.args.z s.requires.0.rise
     ∷ held w32 s.args.left s.ranges.left
     ∷ held w32 s.args.m s.ranges.m
     ∷ held w32 s.args.n s.ranges.n
-    ∷ known_inside s.args.t s.requires.in_piece.width s.requires.in_piece.place
+    ∷ known_inside s.args.t s.requires.0.width s.requires.0.place
     ∷ []
 
 coefficients-cubic-requires : tie.Need-coefficients-cubic-requires
-coefficients-cubic-requires c κs = record { unit_size = as_coded₁ (given c) UnitSize (search arguments depth 30 fits 9000) tt c.requires.in_piece.unit; width_within = as_coded₁ (given c) WidthWithin (search arguments depth 30 fits 9000) tt c.requires.in_piece.width; rise_within = as_coded₁ (given c) RiseWithin (search arguments depth 30 fits 9000) tt c.requires.in_piece.rise }
+coefficients-cubic-requires c κs = (
+  as_coded₁ (given c) UnitSize (search arguments depth 30 fits 9000) tt c.requires.0.unit,
+  (
+    as_coded₁ (given c) WidthWithin (search arguments depth 30 fits 9000) tt c.requires.0.width,
+    as_coded₁ (given c) RiseWithin (search arguments depth 30 fits 9000) tt c.requires.0.rise,
+  ),
+)
 
 module _ (c : tie.After-coefficients-cubic) where
   abbrev s : tie.Start
@@ -44,7 +50,7 @@ module _ (c : tie.After-coefficients-cubic) where
       plainly₅ (given s) (λ (U h z m n : ℤ). Coefficients U h z m n r.first r.second r.third) c.coefficients-cubic.ensures (search code depth 30 fits 9000) (search arguments depth 30 fits 9000) tt
 
   steps : let r = c.coefficients-cubic.result in HornerWithin (2 ^ 53) r.first r.second r.third s.args.t s.args.h
-  steps = steps_exact s.requires.in_piece s.requires.fact are
+  steps = steps_exact s.pre.0 s.pre.1 are
 
   abbrev with_cubic : List Known
   with_cubic =
@@ -67,7 +73,7 @@ returns : tie.Need-returns
 returns c =
     let n = c.before.before in
     let Γ = given n.before.before.before.before.before in
-    record { exactly = cast_is binary64 Γ (search code depth 30 fits 9000) tt; exactly_2 = is_cubic n; exactly_3 = cast_is binary64 Γ (search code depth 30 fits 9000) tt }
+    (cast_is binary64 Γ (search code depth 30 fits 9000) tt, (is_cubic n, cast_is binary64 Γ (search code depth 30 fits 9000) tt))
 
 overflow_mul-denominator : tie.Need-overflow_mul-denominator
 overflow_mul-denominator c = fits (given c.before.before.before.before.before) (search code depth 30 fits 9000) tt

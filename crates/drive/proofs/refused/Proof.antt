@@ -7,7 +7,7 @@ use Rattle.drive.proofs.refused.Statement.{statement}
 use Rattle.drive.proofs.refused.Tie as tie
 
 returns : tie.Need-returns
-returns c = record { refusal_value = refl; answer_value = ap dwell (one_float zero_in_code (plus_zero binary64)) }
+returns c = (refl, ap dwell (one_float zero_in_code (plus_zero binary64)))
 
 pub refused_spec : {M : Type 1} → statement M
 refused_spec = tie.close (tie.spec returns)

@@ -25,7 +25,7 @@ spot : (c : tie.After-struct_told-1) → let p = c.args.p in Held c.args.unit p.
 spot c = held_fields c.ranges.unit c.struct_told-1.given
 
 abbrev given : tie.After-struct_told-1 → List Known
-given c = let s = c.before.before in known_rise s.args.p.z s.requires.in_piece.rise ∷ held w32 s.args.p.left (spot c).left_fits ∷ []
+given c = let s = c.before.before in known_rise s.args.p.z s.requires.0.rise ∷ held w32 s.args.p.left (spot c).left_fits ∷ []
 
 returns-then-p-eq0 : tie.Need-returns-then-p-eq0
 returns-then-p-eq0 c =
@@ -52,7 +52,7 @@ moving-requires : tie.Need-moving-requires
 moving-requires c κs =
     let p = c.before.before.before.before.before.before.before in
     let pre = p.requires in
-    record { in_piece = as_held InPiece (spot p) pre.0; fact = as_held (λ (U h z m n t : ℤ). TooLarge h z → ⊥) (spot p) pre.1 }
+    (as_held InPiece (spot p) pre.0, as_held (λ (U h z m n t : ℤ). TooLarge h z → ⊥) (spot p) pre.1)
 
 pub told_spec : {M : Type 1} → statement M
 told_spec = tie.close (tie.spec int_to_float-level returns-then-p-eq0 moving-requires returns)

@@ -11,12 +11,12 @@ use Rattle.drive.proofs.too_large.Statement.{statement}
 use Rattle.drive.proofs.too_large.Tie as tie
 
 abbrev given : tie.Start → List Known
-given s = known_width s.args.h s.requires.width_within ∷ known_rise s.args.z s.requires.rise_within ∷ []
+given s = known_width s.args.h s.requires.0 ∷ known_rise s.args.z s.requires.1 ∷ []
 
 returns : tie.Need-returns
 returns c =
     let s = c.before in
-    decided_by_size s.args.h s.args.z {b = c.between.result} s.requires.width_within
+    decided_by_size s.args.h s.args.z {b = c.between.result} s.requires.0
     (plainly₃ (given s) (λ (l x h : ℤ). Decided (Between l x h) c.between.result) c.between.ensures (search arguments depth 30 fits 9000) tt)
 
 overflow_sub-between : tie.Need-overflow_sub-between

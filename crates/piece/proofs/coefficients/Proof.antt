@@ -12,16 +12,16 @@ use Rattle.piece.proofs.coefficients.Tie as tie
 
 abbrev given : tie.Start → List Known
 given s =
-    known_unit s.args.unit s.requires.unit_size
-    ∷ known_width s.args.h s.requires.width_within
-    ∷ known_rise s.args.z s.requires.rise_within
+    known_unit s.args.unit s.requires.0
+    ∷ known_width s.args.h s.requires.1.0
+    ∷ known_rise s.args.z s.requires.1.1
     ∷ held w32 s.args.m s.ranges.m
     ∷ held w32 s.args.n s.ranges.n
     ∷ []
 
 in_units-u-requires : tie.Need-in_units-u-requires
 in_units-u-requires c κs =
-    record { unit_size = as_coded₁ (given c) UnitSize (search arguments depth 30 fits 9000) tt c.requires.unit_size; within = sized (given c) (search code depth 30 fits 9000) tt; within_2 = sized (given c) (search code depth 30 fits 9000) tt }
+    (as_coded₁ (given c) UnitSize (search arguments depth 30 fits 9000) tt c.requires.0, (sized (given c) (search code depth 30 fits 9000) tt, sized (given c) (search code depth 30 fits 9000) tt))
 
 -- Z, a and b
 units : (c : tie.After-in_units-u) → let s = c.args in let r = c.in_units_lem.result in UnitsOf s.unit s.h s.z s.m s.n r.rise r.a r.b

@@ -8,7 +8,7 @@ use Rattle.piece.proofs.in_units.Tie as tie
 
 abbrev given : tie.Start → List Known
 given s =
-    known_unit s.args.unit s.requires.unit_size ∷ known s.args.h _ s.requires.within ∷ known s.args.z _ s.requires.within_2 ∷ held w32 s.args.m s.ranges.m ∷ held w32 s.args.n s.ranges.n ∷ []
+    known_unit s.args.unit s.requires.0 ∷ known s.args.h _ s.requires.1.0 ∷ known s.args.z _ s.requires.1.1 ∷ held w32 s.args.m s.ranges.m ∷ held w32 s.args.n s.ranges.n ∷ []
 
 overflow_mul-rise : tie.Need-overflow_mul-rise
 overflow_mul-rise c = fits (given c) (search code depth 30 fits 9000) tt
@@ -26,15 +26,18 @@ overflow_mul-b : tie.Need-overflow_mul-b
 overflow_mul-b c = fits (given c) (search code depth 30 fits 9000) tt
 
 returns : tie.Need-returns
-returns c = record { units_of = record {
+returns c = (
+  record {
     rise_is = plain_is {Γ = given c} (search code depth 30 fits 9000) tt;
     a_is = plain_is {Γ = given c} (search code depth 30 fits 9000) tt;
     b_is = plain_is {Γ = given c} (search code depth 30 fits 9000) tt;
-  }; moderate = record {
+  },
+  record {
     rise = sized (given c) (search code depth 30 fits 9000) tt;
     start = sized (given c) (search code depth 30 fits 9000) tt;
     end = sized (given c) (search code depth 30 fits 9000) tt;
-  } }
+  },
+)
 
 pub in_units_spec : {M : Type 1} → statement M
 in_units_spec = tie.close (tie.spec overflow_mul-rise overflow_cast-a overflow_mul-a overflow_cast-b overflow_mul-b returns)

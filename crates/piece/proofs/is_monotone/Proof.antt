@@ -19,9 +19,9 @@ use Rattle.piece.proofs.is_monotone.Tie as tie
 -- what the limits and the types say of the arguments
 abbrev given : tie.Start → List Known
 given s =
-    known_unit s.args.unit s.requires.unit_size
-    ∷ known_width s.args.h s.requires.width_within
-    ∷ known_rise s.args.z s.requires.rise_within
+    known_unit s.args.unit s.requires.0
+    ∷ known_width s.args.h s.requires.1.0
+    ∷ known_rise s.args.z s.requires.1.1
     ∷ held w32 s.args.m s.ranges.m
     ∷ held w32 s.args.n s.ranges.n
     ∷ []
@@ -53,7 +53,7 @@ after c =
 
 in_units-u-requires : tie.Need-in_units-u-requires
 in_units-u-requires c κs =
-    record { unit_size = as_coded₁ (after c) UnitSize (search arguments depth 30 fits 9000) tt c.requires.unit_size; within = sized (after c) (search code depth 30 fits 9000) tt; within_2 = sized (after c) (search code depth 30 fits 9000) tt }
+    (as_coded₁ (after c) UnitSize (search arguments depth 30 fits 9000) tt c.requires.0, (sized (after c) (search code depth 30 fits 9000) tt, sized (after c) (search code depth 30 fits 9000) tt))
 
 -- its Z, a and b
 module _ (c : tie.After-in_units-u) where

@@ -75,12 +75,12 @@ unit-requires : tie.Need-unit-requires
 unit-requires c κs = in_nine c.before.before.before.before
 
 abbrev with_unit : tie.After-unit → List Known
-with_unit c = known_unit c.unit.result c.unit.ensures.unit_size ∷ given (start c.before.before.before)
+with_unit c = known_unit c.unit.result c.unit.ensures.1 ∷ given (start c.before.before.before)
 
 is_monotone-requires : tie.Need-is_monotone-requires
 is_monotone-requires c κs =
     let e = c.before in
-    record { unit_size = as_coded₁ (with_unit c) UnitSize (search arguments depth 30 fits 9000) tt c.unit.ensures.unit_size; width_within = wide_enough e.before.before; rise_within = risen_enough e }
+    (as_coded₁ (with_unit c) UnitSize (search arguments depth 30 fits 9000) tt c.unit.ensures.1, (wide_enough e.before.before, risen_enough e))
 
 -- where the piece has been looked at
 module _ (c : tie.After-is_monotone) where
@@ -95,7 +95,7 @@ module _ (c : tie.After-is_monotone) where
 
   decided : Decided (Monotone (unit s.args.s) s.args.h s.args.z s.args.m s.args.n) c.is_monotone.result
   decided =
-      subst (λ (U : ℤ). Decided (Monotone U s.args.h s.args.z s.args.m s.args.n) c.is_monotone.result) c.unit.ensures.value
+      subst (λ (U : ℤ). Decided (Monotone U s.args.h s.args.z s.args.m s.args.n) c.is_monotone.result) c.unit.ensures.0
       (plainly₅ (with_unit c.before) (λ (U h z m n : ℤ). Decided (Monotone U h z m n) c.is_monotone.result) c.is_monotone.ensures (search code depth 30 fits 9000) (search arguments depth 30 fits 9000) tt)
 
 returns-then-not-is_monotone : tie.Need-returns-then-not-is_monotone

@@ -25,7 +25,7 @@ returns-then-refusal-ne-DONE c =
 seek-requires : tie.Need-seek-requires
 seek-requires c κs =
     let a = accepted_table c.if-refusal-ne-DONE.false c.check-refusal.ensures in
-    record { points_within = a.limits; slopes_len = a.slopes }
+    (a.limits, a.slopes)
 
 enum_told-1 : tie.Need-enum_told-1
 enum_told-1 c = search rules

@@ -12,7 +12,7 @@ use Rattle.position.proofs.seek.Statement.{statement}
 use Rattle.position.proofs.seek.Tie as tie
 
 within-requires : tie.Need-within-requires
-within-requires c κs = omega (arith, c.requires.points_within.count.low)
+within-requires c κs = omega (arith, c.requires.0.count.low)
 
 returns-then-not-within : tie.Need-returns-then-not-within
 returns-then-not-within c =
@@ -21,13 +21,13 @@ returns-then-not-within c =
 
 piece-piece-requires : tie.Need-piece-piece-requires
 piece-piece-requires c κs =
-    let p = c.requires.points_within in
-    record { in_bounds = omega (arith, p.count.low); knots_bound = ten_halvings p; within_knots = told c.within.ensures (not-false _ c.if-not-within.false) }
+    let p = c.requires.0 in
+    (omega (arith, p.count.low), (ten_halvings p, told c.within.ensures (not-false _ c.if-not-within.false)))
 
 spot_on-requires : tie.Need-spot_on-requires
 spot_on-requires c κs =
     let p = c.requires in
-    record { points_within = p.0; slopes_len = p.1; belongs = c.piece-piece.ensures }
+    (p.0, (p.1, c.piece-piece.ensures))
 
 returns : tie.Need-returns
 returns c =

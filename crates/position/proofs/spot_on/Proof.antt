@@ -19,13 +19,13 @@ use Rattle.position.proofs.spot_on.Tie as tie
 -- ---- the piece is in the lists
 
 in_knots : (s : tie.Start) → s.args.i + 1 < length s.args.knots.now
-in_knots s = within_list s.requires.belongs
+in_knots s = within_list s.requires.1.1
 
 in_values : (s : tie.Start) → s.args.i + 1 < length s.args.values.now
-in_values s = omega (arith, in_knots s, s.requires.points_within.lengths)
+in_values s = omega (arith, in_knots s, s.requires.0.lengths)
 
 in_slopes : (s : tie.Start) → s.args.i + 1 < length s.args.slopes.now
-in_slopes s = omega (arith, in_knots s, s.requires.slopes_len)
+in_slopes s = omega (arith, in_knots s, s.requires.1.0)
 
 offset_bounds-values-i : tie.Need-offset_bounds-values-i
 offset_bounds-values-i c = let l = in_values c in search rules
@@ -112,7 +112,7 @@ returns c =
     let left_is = to_z-of_z (left at_left) in
     let z_is = rise at-rise in
     record {
-      belongs = at_left.requires.belongs;
+      belongs = at_left.requires.1.1;
       left_is = left_is;
       h_is = width at-rise.before.before;
       z_is = z_is;

@@ -28,7 +28,7 @@ is_unit : (c : tie.Start) → to_z w64 ((1 * 2 ^ c.args.s) % 2 ^ 64) ≡ unit c.
 is_unit c = moved_up (omega (arith, c.requires.high))
 
 returns : tie.Need-returns
-returns c = record { value = is_unit c; unit_size = subst UnitSize (sym (is_unit c)) (unit_size c.requires) }
+returns c = (is_unit c, subst UnitSize (sym (is_unit c)) (unit_size c.requires))
 
 pub unit_spec : {M : Type 1} → statement M
 unit_spec = tie.close (tie.spec overflow_cast-result overflow_shl-result returns)

@@ -20,7 +20,7 @@ end-requires c κs = search rules
 renew-requires : tie.Need-renew-requires
 renew-requires c κs =
     let s = c.before.before.before in
-    let o = in_order s.requires.k_in_bounds c.first.ensures c.end.ensures in record { unit_size = subst UnitSize (sym (to_z-of_z s.ranges.unit)) s.requires.unit_size; points_within = s.requires.points_within; slopes_len = s.requires.slopes_len; from_le_to = o.0; to_in_bounds = o.1 }
+    let o = in_order s.requires.1.1.1 c.first.ensures c.end.ensures in (subst UnitSize (sym (to_z-of_z s.ranges.unit)) s.requires.0, (s.requires.1.0, (s.requires.1.1.0, (o.0, o.1))))
 
 shape_of-slopes : tie.Need-shape_of-slopes
 shape_of-slopes c = search rules
@@ -29,10 +29,10 @@ returns : tie.Need-returns
 returns c =
     let d = c.before.before in
     let s = d.before.before.before in
-    let n = sym s.requires.slopes_len in
+    let n = sym s.requires.1.1.0 in
     c.renew.ensures
     ∙ ap (λ (U : ℤ). put (built_slope U s.args.knots.now s.args.values.now) d.first.result (d.end.result - d.first.result) s.args.slopes.now) (to_z-of_z s.ranges.unit)
-    ∙ put_renewed (built_slope s.args.unit s.args.knots.now s.args.values.now) s.args.slopes.now (subst (λ (m : ℕ). s.args.k < m) n s.requires.k_in_bounds) d.first.ensures (subst (λ (m : ℕ). UpTo m s.args.k d.end.result) n d.end.ensures)
+    ∙ put_renewed (built_slope s.args.unit s.args.knots.now s.args.values.now) s.args.slopes.now (subst (λ (m : ℕ). s.args.k < m) n s.requires.1.1.1) d.first.ensures (subst (λ (m : ℕ). UpTo m s.args.k d.end.result) n d.end.ensures)
 
 pub renew_spec : {M : Type 1} → statement M
 renew_spec = tie.close (tie.spec first-requires end-requires renew-requires shape_of-slopes returns)

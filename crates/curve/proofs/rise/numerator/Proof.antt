@@ -8,11 +8,11 @@ use Rattle.curve.proofs.rise.numerator.Tie as tie
 
 abbrev given : tie.Start → List Known
 given s =
-    known s.args.first _ s.requires.small.one
-    ∷ known s.args.second _ s.requires.small.two
-    ∷ known s.args.third _ s.requires.small.three
-    ∷ known_width s.args.h s.requires.width_within
-    ∷ known_inside s.args.t s.requires.width_within s.requires.between
+    known s.args.first _ s.requires.0.one
+    ∷ known s.args.second _ s.requires.0.two
+    ∷ known s.args.third _ s.requires.0.three
+    ∷ known_width s.args.h s.requires.1.0
+    ∷ known_inside s.args.t s.requires.1.0 s.requires.1.1
     ∷ []
 
 overflow_mul-result : tie.Need-overflow_mul-result

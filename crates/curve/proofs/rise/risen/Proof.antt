@@ -30,7 +30,13 @@ given s =
     ∷ []
 
 coefficients-cubic-requires : tie.Need-coefficients-cubic-requires
-coefficients-cubic-requires c κs = record { unit_size = as_coded₁ (given c) UnitSize (search arguments depth 30 fits 9000) tt c.requires.unit; width_within = as_coded₁ (given c) WidthWithin (search arguments depth 30 fits 9000) tt c.requires.width; rise_within = as_coded₁ (given c) RiseWithin (search arguments depth 30 fits 9000) tt c.requires.rise }
+coefficients-cubic-requires c κs = (
+  as_coded₁ (given c) UnitSize (search arguments depth 30 fits 9000) tt c.requires.unit,
+  (
+    as_coded₁ (given c) WidthWithin (search arguments depth 30 fits 9000) tt c.requires.width,
+    as_coded₁ (given c) RiseWithin (search arguments depth 30 fits 9000) tt c.requires.rise,
+  ),
+)
 
 -- ---- the coefficients
 
@@ -59,7 +65,13 @@ module _ (c : tie.After-coefficients-cubic) where
 numerator-above-requires : tie.Need-numerator-above-requires
 numerator-above-requires c κs =
     let p = c.before.before.before in
-    let Γ = with_cubic p in record { small = as_coded₃ Γ Small (search arguments depth 30 fits 9000) tt (small p); width_within = as_coded₁ Γ WidthWithin (search arguments depth 30 fits 9000) tt p.requires.width; between = as_coded₂ Γ (Between (pos 0)) (search arguments depth 30 fits 9000) tt p.requires.place }
+    let Γ = with_cubic p in (
+      as_coded₃ Γ Small (search arguments depth 30 fits 9000) tt (small p),
+      (
+        as_coded₁ Γ WidthWithin (search arguments depth 30 fits 9000) tt p.requires.width,
+        as_coded₂ Γ (Between (pos 0)) (search arguments depth 30 fits 9000) tt p.requires.place,
+      ),
+    )
 
 -- ---- the numerator
 

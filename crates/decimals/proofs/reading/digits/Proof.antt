@@ -19,7 +19,7 @@ are_digits-requires : tie.Need-are_digits-requires
 are_digits-requires c κs = search rules
 
 value-requires : tie.Need-value-requires
-value-requires c κs = record { text_value = sym c.are_digits.ensures ∙ c.if-are_digits.true; le_most = search rules }
+value-requires c κs = (sym c.are_digits.ensures ∙ c.if-are_digits.true, search rules)
 
 returns-then-are_digits : tie.Need-returns-then-are_digits
 returns-then-are_digits c =

@@ -39,7 +39,7 @@ more : (c : tie.In-loop-i invariant-loop-i decreases-loop-i)
 more c = c.loop-i.invariant.2 ∙ natural_on _ _ c.loop-i-test.true _
 
 loop-i-init : tie.Need-loop-i-init invariant-loop-i decreases-loop-i
-loop-i-init c = (omega arith, c.requires.text_value, refl)
+loop-i-init c = (omega arith, c.requires.0, refl)
 
 bounds-text-i : tie.Need-bounds-text-i invariant-loop-i decreases-loop-i
 bounds-text-i c = search rules

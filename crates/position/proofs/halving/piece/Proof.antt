@@ -16,7 +16,7 @@ overflow_sub-end c = search rules
 among-requires : tie.Need-among-requires
 among-requires c κs =
     let s = c.before in
-    subst (λ (x : ℤ). Among s.args.t1.now x 0 (length s.args.t1.now - 1)) (sym (to_z-of_z s.ranges.position)) (among_all s.requires.in_bounds s.requires.within_knots)
+    subst (λ (x : ℤ). Among s.args.t1.now x 0 (length s.args.t1.now - 1)) (sym (to_z-of_z s.ranges.position)) (among_all s.requires.0 s.requires.1.1)
 
 returns : tie.Need-returns
 returns c =

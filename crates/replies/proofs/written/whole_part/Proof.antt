@@ -7,7 +7,7 @@ use Rattle.replies.proofs.written.whole_part.Tie as tie
 
 truncating_f64_to_u64-requires : tie.Need-truncating_f64_to_u64-requires
 unfolding of_bits neg
-truncating_f64_to_u64-requires c κs = record { lower_bound = subst T (sym c.if-x.true) tt; upper_bound = subst T (sym c.if-x-2.true) tt }
+truncating_f64_to_u64-requires c κs = (subst T (sym c.if-x.true) tt, subst T (sym c.if-x-2.true) tt)
 
 -- what the definition makes of the first test, and of the second
 abbrev above : Float → Bool → ℕ

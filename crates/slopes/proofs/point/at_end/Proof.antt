@@ -22,7 +22,7 @@ end_piece-piece-requires c κs = search rules
 
 -- the second of three points or more is no end
 neighbour-next-requires : tie.Need-neighbour-next-requires
-neighbour-next-requires c κs = not_the_second c.requires.in_bounds c.requires.at_end
+neighbour-next-requires c κs = not_the_second c.requires.1.1.0 c.requires.1.1.1
   where
     not_the_second : {n i : ℕ} → 2 < n → AtEnd n i → i ≡ 1 → ⊥
     not_the_second n (at_the_first z) e = omega arith
@@ -38,19 +38,19 @@ second : (c : tie.After-neighbour-next) → Neighbour (start c).args.i c.neighbo
 second c = c.neighbour-next.ensures
 
 there : (c : tie.After-neighbour-next) → let s = (start c).args in (s.i - 1 + 1 < length s.knots.now) × (c.neighbour-next.result + 1 < length s.knots.now)
-there c = let s = start c in end_pieces s.args.unit s.args.knots.now s.args.values.now s.args.i s.requires.in_bounds s.requires.at_end (second c)
+there c = let s = start c in end_pieces s.args.unit s.args.knots.now s.args.values.now s.args.i s.pre.1.1.0 s.pre.1.1.1 (second c)
 
 step-requires : tie.Need-step-requires
 step-requires c κs = omega (arith, (there c).0, first c)
 
 step-requires-2 : tie.Need-step-requires-2
-step-requires-2 c κs = let d = c.before in omega (arith, (there d).0, first d, (start d).requires.points_within.lengths)
+step-requires-2 c κs = let d = c.before in omega (arith, (there d).0, first d, (start d).requires.1.0.lengths)
 
 step-requires-3 : tie.Need-step-requires-3
 step-requires-3 c κs = (there c.before.before).1
 
 step-requires-4 : tie.Need-step-requires-4
-step-requires-4 c κs = let d = c.before.before.before in omega (arith, (there d).1, (start d).requires.points_within.lengths)
+step-requires-4 c κs = let d = c.before.before.before in omega (arith, (there d).1, (start d).requires.1.0.lengths)
 
 -- ---- as they were read
 
@@ -69,7 +69,13 @@ its_rise c = returned w64 c.step-4.type_inv c.step-4.ensures
 end-requires : tie.Need-end-requires
 end-requires c κs =
     let d = c.before.before.before.before in
-    let s = start d in record { unit_size = subst UnitSize (sym (to_z-of_z s.ranges.unit)) s.requires.unit_size; piece_within = piece_within (s.args.i - 1) s.requires.points_within (there d).0 (width c.before.before.before) (rise c.before.before); piece_within_2 = piece_within d.neighbour-next.result s.requires.points_within (there d).1 (its_width c.before) (its_rise c) }
+    let s = start d in (
+      subst UnitSize (sym (to_z-of_z s.ranges.unit)) s.pre.0,
+      (
+        piece_within (s.args.i - 1) s.pre.1.0 (there d).0 (width c.before.before.before) (rise c.before.before),
+        piece_within d.neighbour-next.result s.pre.1.0 (there d).1 (its_width c.before) (its_rise c),
+      ),
+    )
 
 returns : tie.Need-returns
 returns c =
@@ -78,7 +84,7 @@ returns c =
     let s = start d in
     returned w32 c.end.type_inv c.end.ensures
     ∙ same_pieces end_slope (to_z-of_z s.ranges.unit) (width e.before.before.before) (rise e.before.before) (its_width e.before) (its_rise e)
-    ∙ end_slope_lem s.args.unit s.args.knots.now s.args.values.now s.args.i s.requires.in_bounds s.requires.at_end (second d)
+    ∙ end_slope_lem s.args.unit s.args.knots.now s.args.values.now s.args.i s.pre.1.1.0 s.pre.1.1.1 (second d)
 
 pub at_end_spec : {M : Type 1} → statement M
 at_end_spec =

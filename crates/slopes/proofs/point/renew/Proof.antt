@@ -29,21 +29,21 @@ built s = built_slope (to_z w64 (of_z w64 s.args.unit)) s.args.knots.now s.args.
 loop-i-init : tie.Need-loop-i-init invariant-loop-i decreases-loop-i
 loop-i-init c =
     let s = c.args in
-    (omega (arith, c.requires.from_le_to), omega (arith, c.requires.from_le_to), put_none (built c) s.from s.slopes.now)
+    (omega (arith, c.requires.1.1.1.0), omega (arith, c.requires.1.1.1.0), put_none (built c) s.from s.slopes.now)
 
 -- the list is as long as it was, and i is in it
 full : (c : tie.At-loop-i invariant-loop-i decreases-loop-i) → length c.loop-i.slopes ≡ length c.args.knots.now
 full c =
     let s = c.args in
-    ap length c.loop-i.invariant.2 ∙ length_put (built c.before) s.from s.slopes.now (c.loop-i.i - s.from) ∙ c.requires.slopes_len
+    ap length c.loop-i.invariant.2 ∙ length_put (built c.before) s.from s.slopes.now (c.loop-i.i - s.from) ∙ c.requires.1.1.0
 
 in_list : (c : tie.In-loop-i invariant-loop-i decreases-loop-i) → c.loop-i.i < length c.args.knots.now
-in_list c = omega (arith, c.loop-i-test.true, c.requires.to_in_bounds)
+in_list c = omega (arith, c.loop-i-test.true, c.requires.1.1.1.1)
 
 slope-requires : tie.Need-slope-requires invariant-loop-i decreases-loop-i
 slope-requires c κs =
     let s = c.before.before in
-    record { unit_size = subst UnitSize (sym (to_z-of_z s.ranges.unit)) s.requires.unit_size; points_within = s.requires.points_within; i_in_bounds = omega (arith, in_list c, c.loop-i.invariant.0) }
+    (subst UnitSize (sym (to_z-of_z s.ranges.unit)) s.requires.0, (s.requires.1.0, omega (arith, in_list c, c.loop-i.invariant.0)))
 
 offset_bounds-slopes-i : tie.Need-offset_bounds-slopes-i invariant-loop-i decreases-loop-i
 offset_bounds-slopes-i c = let l = in_list c.before in search rules
@@ -69,7 +69,7 @@ loop-i-preserved c =
     )
 
 shape_of-slopes : tie.Need-shape_of-slopes invariant-loop-i decreases-loop-i
-shape_of-slopes c = full c.before ∙ sym c.requires.slopes_len
+shape_of-slopes c = full c.before ∙ sym c.requires.1.1.0
 
 returns : tie.Need-returns invariant-loop-i decreases-loop-i
 returns c =

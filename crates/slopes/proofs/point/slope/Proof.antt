@@ -21,7 +21,7 @@ use Rattle.slopes.proofs.point.slope.Tie as tie
 
 -- the unit, as it is handed on
 unit_handed : (s : tie.Start) → UnitSize (to_z w64 (of_z w64 s.args.unit))
-unit_handed s = subst UnitSize (sym (to_z-of_z s.ranges.unit)) s.requires.unit_size
+unit_handed s = subst UnitSize (sym (to_z-of_z s.ranges.unit)) s.requires.0
 
 -- ---- two points
 
@@ -40,8 +40,8 @@ only_rise c = returned w64 c.step-then-n-lt3.type_inv c.step-then-n-lt3.ensures
 secant-requires : tie.Need-secant-requires
 secant-requires c κs =
     let s = c.before.before.before in
-    let p = s.requires.points_within in
-    record { unit_size = unit_handed s; piece_within = piece_within 0 p (omega (arith, p.count.low)) (only_width c.before) (only_rise c) }
+    let p = s.requires.1.0 in
+    (unit_handed s, piece_within 0 p (omega (arith, p.count.low)) (only_width c.before) (only_rise c))
 
 returns-then-n-lt3 : tie.Need-returns-then-n-lt3
 returns-then-n-lt3 c =
@@ -55,7 +55,7 @@ returns-then-n-lt3 c =
 -- ---- an end of three or more
 
 is_end-requires : tie.Need-is_end-requires
-is_end-requires c κs = c.requires.i_in_bounds
+is_end-requires c κs = c.requires.1.1
 
 ends : (c : tie.After-is_end) → let s = c.args in Decided (AtEnd (length s.knots.now) s.i) c.is_end.result
 ends c = c.is_end.ensures
@@ -64,7 +64,7 @@ at_end-requires : tie.Need-at_end-requires
 at_end-requires c κs =
     let d = c.before in
     let s = d.before.before in
-    record { unit_size = unit_handed s; points_within = s.requires.points_within; in_bounds = omega (arith, d.if-n-lt3.false); at_end = told (ends d) c.if-is_end.true }
+    (unit_handed s, (s.requires.1.0, (omega (arith, d.if-n-lt3.false), told (ends d) c.if-is_end.true)))
 
 returns-then-is_end : tie.Need-returns-then-is_end
 returns-then-is_end c =
@@ -80,7 +80,7 @@ inside : (c : tie.Else-is_end) → let s = (start c).args in (0 < s.i) × (s.i +
 inside c =
     let s = start c in
     let e : (s.args.i ≡ 0 → ⊥) = λ e. denied (ends c.before) c.if-is_end.false (at_the_first e) in
-    let f : (s.args.i + 1 ≡ length s.args.knots.now → ⊥) = λ e. denied (ends c.before) c.if-is_end.false (at_the_last e) in (omega arith, omega (arith, s.requires.i_in_bounds))
+    let f : (s.args.i + 1 ≡ length s.args.knots.now → ⊥) = λ e. denied (ends c.before) c.if-is_end.false (at_the_last e) in (omega arith, omega (arith, s.pre.1.1))
 
 overflow_sub-left : tie.Need-overflow_sub-left
 overflow_sub-left c = omega (arith, (inside c).0)
@@ -89,13 +89,13 @@ step-requires-2 : tie.Need-step-requires-2
 step-requires-2 c κs = let l = inside c in omega (arith, l.0, l.1)
 
 step-requires-3 : tie.Need-step-requires-3
-step-requires-3 c κs = let l = inside c.before in omega (arith, l.0, l.1, (start c.before).requires.points_within.lengths)
+step-requires-3 c κs = let l = inside c.before in omega (arith, l.0, l.1, (start c.before).requires.1.0.lengths)
 
 step-requires-4 : tie.Need-step-requires-4
 step-requires-4 c κs = (inside c.before.before).1
 
 step-requires-5 : tie.Need-step-requires-5
-step-requires-5 c κs = let d = c.before.before.before in omega (arith, (inside d).1, (start d).requires.points_within.lengths)
+step-requires-5 c κs = let d = c.before.before.before in omega (arith, (inside d).1, (start d).requires.1.0.lengths)
 
 left_width : (c : tie.After-step-2) → let s = (start c.before).args in to_z w64 (of_z w64 c.step-2.result) ≡ step s.knots.now (s.i - 1)
 left_width c = returned w64 c.step-2.type_inv c.step-2.ensures
@@ -114,7 +114,13 @@ inner-requires c κs =
     let d = c.before.before.before.before in
     let s = start d in
     let i = s.args.i in
-    let l = inside d in record { unit_size = unit_handed s; piece_within = piece_within (i - 1) s.requires.points_within (omega (arith, l.0, l.1)) (left_width c.before.before.before) (left_rise c.before.before); piece_within_2 = piece_within i s.requires.points_within l.1 (right_width c.before) (right_rise c) }
+    let l = inside d in (
+      unit_handed s,
+      (
+        piece_within (i - 1) s.pre.1.0 (omega (arith, l.0, l.1)) (left_width c.before.before.before) (left_rise c.before.before),
+        piece_within i s.pre.1.0 l.1 (right_width c.before) (right_rise c),
+      ),
+    )
 
 returns : tie.Need-returns
 returns c =

@@ -18,11 +18,11 @@ use Rattle.slopes.proofs.rule.end.Tie as tie
 
 abbrev given : tie.Start → List Known
 given s =
-    known_unit s.args.unit s.requires.unit_size
-    ∷ known_width s.args.h1 s.requires.piece_within.width
-    ∷ known_rise s.args.z1 s.requires.piece_within.rise
-    ∷ known_width s.args.h2 s.requires.piece_within_2.width
-    ∷ known_rise s.args.z2 s.requires.piece_within_2.rise
+    known_unit s.args.unit s.requires.0
+    ∷ known_width s.args.h1 s.requires.1.0.width
+    ∷ known_rise s.args.z1 s.requires.1.0.rise
+    ∷ known_width s.args.h2 s.requires.1.1.width
+    ∷ known_rise s.args.z2 s.requires.1.1.rise
     ∷ []
 
 -- ---- a fall
@@ -39,14 +39,20 @@ up c = 0≤_minus (<ℤ→≤ℤ (passed (given c.before) c.if-z1-lt0.true (sear
 rising_end-requires : tie.Need-rising_end-requires
 rising_end-requires c κs =
     let Γ = given c.before in
-    let s = c.before in record { unit_size = as_coded₁ Γ UnitSize (search arguments depth 30 fits 9000) tt s.requires.unit_size; piece_within = as_coded₂ Γ PieceWithin (search arguments depth 30 fits 9000) tt (turned s.requires.piece_within); piece_within_2 = as_coded₂ Γ PieceWithin (search arguments depth 30 fits 9000) tt (turned s.requires.piece_within_2); pos_bound = as_coded₁ Γ (λ (z : ℤ). pos 0 ≤ℤ z) (search arguments depth 30 fits 9000) tt (up c) }
+    let s = c.before in (
+      as_coded₁ Γ UnitSize (search arguments depth 30 fits 9000) tt s.requires.0,
+      (
+        as_coded₂ Γ PieceWithin (search arguments depth 30 fits 9000) tt (turned s.requires.1.0),
+        (as_coded₂ Γ PieceWithin (search arguments depth 30 fits 9000) tt (turned s.requires.1.1), as_coded₁ Γ (λ (z : ℤ). pos 0 ≤ℤ z) (search arguments depth 30 fits 9000) tt (up c)),
+      ),
+    )
 
 fallen : (c : tie.After-rising_end) → let s = c.args in c.rising_end.result ≡ end_slope s.unit s.h1 (neg_ℤ s.z1) s.h2 (neg_ℤ s.z2)
 fallen c =
     (plainly₅ (given c.before.before) (λ (U h₁ z₁ h₂ z₂ : ℤ). End U h₁ z₁ h₂ z₂ c.rising_end.result) c.rising_end.ensures (search code depth 30 fits 9000) (search arguments depth 30 fits 9000) tt).is
 
 small : (c : tie.After-rising_end) → Within 805306368 c.rising_end.result
-small c = let s = c.before.before in subst (Within 805306368) (sym (fallen c)) (end_within s.requires.unit_size (turned s.requires.piece_within) (turned s.requires.piece_within_2))
+small c = let s = c.before.before in subst (Within 805306368) (sym (fallen c)) (end_within s.requires.0 (turned s.requires.1.0) (turned s.requires.1.1))
 
 abbrev steepness : tie.After-rising_end → List Known
 steepness c = known c.rising_end.result 805306368 (small c) ∷ []
@@ -67,7 +73,16 @@ returns-then-z1-lt0 c =
 rising_end-requires-2 : tie.Need-rising_end-requires-2
 rising_end-requires-2 c κs =
     let Γ = given c.before in
-    let s = c.before in record { unit_size = as_coded₁ Γ UnitSize (search arguments depth 30 fits 9000) tt s.requires.unit_size; piece_within = as_coded₂ Γ PieceWithin (search arguments depth 30 fits 9000) tt s.requires.piece_within; piece_within_2 = as_coded₂ Γ PieceWithin (search arguments depth 30 fits 9000) tt s.requires.piece_within_2; pos_bound = as_coded₁ Γ (λ (z : ℤ). pos 0 ≤ℤ z) (search arguments depth 30 fits 9000) tt (failed Γ c.if-z1-lt0.false (search tests depth 30 fits 9000) tt) }
+    let s = c.before in (
+      as_coded₁ Γ UnitSize (search arguments depth 30 fits 9000) tt s.requires.0,
+      (
+        as_coded₂ Γ PieceWithin (search arguments depth 30 fits 9000) tt s.requires.1.0,
+        (
+          as_coded₂ Γ PieceWithin (search arguments depth 30 fits 9000) tt s.requires.1.1,
+          as_coded₁ Γ (λ (z : ℤ). pos 0 ≤ℤ z) (search arguments depth 30 fits 9000) tt (failed Γ c.if-z1-lt0.false (search tests depth 30 fits 9000) tt),
+        ),
+      ),
+    )
 
 returns : tie.Need-returns
 returns c =

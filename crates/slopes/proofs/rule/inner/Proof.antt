@@ -18,11 +18,11 @@ use Rattle.slopes.proofs.rule.inner.Tie as tie
 
 abbrev given : tie.Start → List Known
 given s =
-    known_unit s.args.unit s.requires.unit_size
-    ∷ known_width s.args.h1 s.requires.piece_within.width
-    ∷ known_rise s.args.z1 s.requires.piece_within.rise
-    ∷ known_width s.args.h2 s.requires.piece_within_2.width
-    ∷ known_rise s.args.z2 s.requires.piece_within_2.rise
+    known_unit s.args.unit s.requires.0
+    ∷ known_width s.args.h1 s.requires.1.0.width
+    ∷ known_rise s.args.z1 s.requires.1.0.rise
+    ∷ known_width s.args.h2 s.requires.1.1.width
+    ∷ known_rise s.args.z2 s.requires.1.1.rise
     ∷ []
 
 overflow_mul-both : tie.Need-overflow_mul-both
@@ -51,21 +51,24 @@ falls : (c : tie.Then-z1-lt0) → let s = c.args in Up s.h1 (neg_ℤ s.z1) × Up
 falls c =
     let s = c.before.before in
     let u = both_down s.args.unit s.args.h1 s.args.z1 s.args.h2 s.args.z2 (product c.before) (down c) in
-    (record { within = turned s.requires.piece_within; up = u.0 }, record { within = turned s.requires.piece_within_2; up = u.1 })
+    (record { within = turned s.requires.1.0; up = u.0 }, record { within = turned s.requires.1.1; up = u.1 })
 
 twice_turned : (c : tie.Then-z1-lt0) → let s = c.args in Product (neg_ℤ s.z1) (neg_ℤ s.z2) (s.z1 *ℤ s.z2)
 twice_turned c = let s = c.args in record { is = ring (s.z1 ∷ s.z2 ∷ []) (search quote depth 30 fits 9000) tt }
 
 mean-requires : tie.Need-mean-requires
 mean-requires c κs =
-    let Γ = given c.before.before in record { unit_size = as_coded₁ Γ UnitSize (search arguments depth 30 fits 9000) tt c.requires.unit_size; up = as_coded₂ Γ Up (search arguments depth 30 fits 9000) tt (falls c).0; up_2 = as_coded₂ Γ Up (search arguments depth 30 fits 9000) tt (falls c).1; product = as_coded₃ Γ Product (search arguments depth 30 fits 9000) tt (twice_turned c) }
+    let Γ = given c.before.before in (
+      as_coded₁ Γ UnitSize (search arguments depth 30 fits 9000) tt c.requires.0,
+      (as_coded₂ Γ Up (search arguments depth 30 fits 9000) tt (falls c).0, (as_coded₂ Γ Up (search arguments depth 30 fits 9000) tt (falls c).1, as_coded₃ Γ Product (search arguments depth 30 fits 9000) tt (twice_turned c))),
+    )
 
 fallen : (c : tie.After-mean) → let s = c.args in c.mean.result ≡ mean s.unit s.h1 (neg_ℤ s.z1) s.h2 (neg_ℤ s.z2)
 fallen c =
     (plainly₅ (given c.before.before.before) (λ (U h₁ z₁ h₂ z₂ : ℤ). Mean U h₁ z₁ h₂ z₂ c.mean.result) c.mean.ensures (search code depth 30 fits 9000) (search arguments depth 30 fits 9000) tt).is
 
 small : (c : tie.After-mean) → Within 805306368 c.mean.result
-small c = subst (Within 805306368) (sym (fallen c)) (mean_within c.requires.unit_size (falls c.before).0 (falls c.before).1)
+small c = subst (Within 805306368) (sym (fallen c)) (mean_within c.requires.0 (falls c.before).0 (falls c.before).1)
 
 abbrev steepness : tie.After-mean → List Known
 steepness c = known c.mean.result 805306368 (small c) ∷ []
@@ -88,7 +91,13 @@ up c = failed (given c.before.before) c.if-z1-lt0.false (search tests depth 30 f
 mean-requires-2 : tie.Need-mean-requires-2
 mean-requires-2 c κs =
     let s = c.before.before in
-    let u = both_up s.args.unit s.args.h1 s.args.z1 s.args.h2 s.args.z2 (product c.before) (up c) in record { unit_size = as_coded₁ (given s) UnitSize (search arguments depth 30 fits 9000) tt s.requires.unit_size; up = as_coded₂ (given s) Up (search arguments depth 30 fits 9000) tt (record { within = s.requires.piece_within; up = u.0 }); up_2 = as_coded₂ (given s) Up (search arguments depth 30 fits 9000) tt (record { within = s.requires.piece_within_2; up = u.1 }); product = as_coded₃ (given s) Product (search arguments depth 30 fits 9000) tt (record { is = refl }) }
+    let u = both_up s.args.unit s.args.h1 s.args.z1 s.args.h2 s.args.z2 (product c.before) (up c) in (
+      as_coded₁ (given s) UnitSize (search arguments depth 30 fits 9000) tt s.requires.0,
+      (
+        as_coded₂ (given s) Up (search arguments depth 30 fits 9000) tt (record { within = s.requires.1.0; up = u.0 }),
+        (as_coded₂ (given s) Up (search arguments depth 30 fits 9000) tt (record { within = s.requires.1.1; up = u.1 }), as_coded₃ (given s) Product (search arguments depth 30 fits 9000) tt (record { is = refl })),
+      ),
+    )
 
 returns : tie.Need-returns
 returns c =

@@ -20,19 +20,19 @@ use Rattle.slopes.proofs.rule.mean.Tie as tie
 
 -- the product of the rises
 both_size : (s : tie.Start) → Within 1099511627776 s.args.both
-both_size s = subst (Within 1099511627776) (sym s.requires.product.is) (sized (known_rise s.args.z1 s.requires.up.within.rise ∷ known_rise s.args.z2 s.requires.up_2.within.rise ∷ []) (search code depth 30 fits 9000) tt)
+both_size s = subst (Within 1099511627776) (sym s.requires.1.1.1.is) (sized (known_rise s.args.z1 s.requires.1.0.within.rise ∷ known_rise s.args.z2 s.requires.1.1.0.within.rise ∷ []) (search code depth 30 fits 9000) tt)
 
 above_is : (s : tie.Start) → let a = s.args in (pos 3 *ℤ a.unit *ℤ (a.h1 +ℤ a.h2) *ℤ a.both) ≡ mean_above a.unit a.h1 a.z1 a.h2 a.z2
 above_is s =
     let a = s.args in
-    ap (λ (b : ℤ). pos 3 *ℤ a.unit *ℤ (a.h1 +ℤ a.h2) *ℤ b) s.requires.product.is
+    ap (λ (b : ℤ). pos 3 *ℤ a.unit *ℤ (a.h1 +ℤ a.h2) *ℤ b) s.requires.1.1.1.is
     ∙ ring (a.unit ∷ a.h1 ∷ a.z1 ∷ a.h2 ∷ a.z2 ∷ []) (search quote depth 30 fits 9000) tt
 
 abbrev given : tie.Start → List Known
 given s =
-    let left = s.requires.up in
-    let right = s.requires.up_2 in
-    known_unit s.args.unit s.requires.unit_size
+    let left = s.requires.1.0 in
+    let right = s.requires.1.1.0 in
+    known_unit s.args.unit s.requires.0
     ∷ known_width s.args.h1 left.within.width
     ∷ known_rise s.args.z1 left.within.rise
     ∷ known_width s.args.h2 right.within.width
@@ -86,10 +86,10 @@ overflow_add-below-3 c = fits (given c) (search code depth 30 fits 9000) tt
 -- the sum below is above 0
 divisor : (s : tie.Start) → pos 1 ≤ℤ mean_below s.args.h1 s.args.z1 s.args.h2 s.args.z2
 divisor s =
-    let h₁ = 0<_width s.requires.up.within.width in
-    let z₁ = s.requires.up.up in
-    let h₂ = 0<_width s.requires.up_2.within.width in
-    let z₂ = s.requires.up_2.up in 0<→1≤ (search positives depth 9 fits 9000)
+    let h₁ = 0<_width s.requires.1.0.within.width in
+    let z₁ = s.requires.1.0.up in
+    let h₂ = 0<_width s.requires.1.1.0.within.width in
+    let z₂ = s.requires.1.1.0.up in 0<→1≤ (search positives depth 9 fits 9000)
 
 nonzero_div-steepness : tie.Need-nonzero_div-steepness
 nonzero_div-steepness c =
@@ -103,11 +103,11 @@ quotient s = let a = s.args in quot_z (pos 3 *ℤ a.unit *ℤ (a.h1 +ℤ a.h2) *
 is_mean : (s : tie.Start) → let a = s.args in quotient s ≡ mean a.unit a.h1 a.z1 a.h2 a.z2
 is_mean s =
     let a = s.args in
-    let u = <ℤ→≤ℤ (0<_unit s.requires.unit_size) in
-    let h₁ = <ℤ→≤ℤ (0<_width s.requires.up.within.width) in
-    let z₁ = <ℤ→≤ℤ s.requires.up.up in
-    let h₂ = <ℤ→≤ℤ (0<_width s.requires.up_2.within.width) in
-    let z₂ = <ℤ→≤ℤ s.requires.up_2.up in
+    let u = <ℤ→≤ℤ (0<_unit s.requires.0) in
+    let h₁ = <ℤ→≤ℤ (0<_width s.requires.1.0.within.width) in
+    let z₁ = <ℤ→≤ℤ s.requires.1.0.up in
+    let h₂ = <ℤ→≤ℤ (0<_width s.requires.1.1.0.within.width) in
+    let z₂ = <ℤ→≤ℤ s.requires.1.1.0.up in
     ap (λ (n : ℤ). quot_z n (mean_below a.h1 a.z1 a.h2 a.z2)) (above_is s)
     ∙ quot_toward (mean_above a.unit a.h1 a.z1 a.h2 a.z2) (divisor s)
     ∙ toward_floor (mean_below a.h1 a.z1 a.h2 a.z2) (search signs depth 9 fits 9000)
@@ -115,7 +115,7 @@ is_mean s =
 -- it fits 32 bits
 small : (s : tie.Start) → let a = s.args in SFits w32 (mean a.unit a.h1 a.z1 a.h2 a.z2)
 small s =
-    fits (known _ 805306368 (mean_within s.requires.unit_size s.requires.up s.requires.up_2) ∷ []) (listed first) tt
+    fits (known _ 805306368 (mean_within s.requires.0 s.requires.1.0 s.requires.1.1.0) ∷ []) (listed first) tt
 
 overflow_cast-result : tie.Need-overflow_cast-result
 overflow_cast-result c =

@@ -19,25 +19,25 @@ use Rattle.slopes.proofs.rule.rising_end.Tie as tie
 
 abbrev given : tie.Start → List Known
 given s =
-    known_unit s.args.unit s.requires.unit_size
-    ∷ known_width s.args.h1 s.requires.piece_within.width
-    ∷ known_rise s.args.z1 s.requires.piece_within.rise
-    ∷ known_width s.args.h2 s.requires.piece_within_2.width
-    ∷ known_rise s.args.z2 s.requires.piece_within_2.rise
+    known_unit s.args.unit s.requires.0
+    ∷ known_width s.args.h1 s.requires.1.0.width
+    ∷ known_rise s.args.z1 s.requires.1.0.rise
+    ∷ known_width s.args.h2 s.requires.1.1.0.width
+    ∷ known_rise s.args.z2 s.requires.1.1.0.rise
     ∷ []
 
 -- what is known of the pieces, and the numerator, the denominator and the slope of the rule
 up : (s : tie.Start) → pos 0 <ℤ s.args.unit
-up s = 0<_unit s.requires.unit_size
+up s = 0<_unit s.requires.0
 
 left_width : (s : tie.Start) → pos 0 <ℤ s.args.h1
-left_width s = 0<_width s.requires.piece_within.width
+left_width s = 0<_width s.requires.1.0.width
 
 right_width : (s : tie.Start) → pos 0 <ℤ s.args.h2
-right_width s = 0<_width s.requires.piece_within_2.width
+right_width s = 0<_width s.requires.1.1.0.width
 
 not_falling : (s : tie.Start) → pos 0 ≤ℤ s.args.z1
-not_falling s = s.requires.pos_bound
+not_falling s = s.requires.1.1.1
 
 abbrev above : tie.Start → ℤ
 above s = end_above s.args.h1 s.args.z1 s.args.h2 s.args.z2
@@ -49,7 +49,7 @@ abbrev slope : tie.Start → ℤ
 slope s = end_slope s.args.unit s.args.h1 s.args.z1 s.args.h2 s.args.z2
 
 small : (s : tie.Start) → SFits w32 (slope s)
-small s = fits (known _ 805306368 (end_within s.requires.unit_size s.requires.piece_within s.requires.piece_within_2) ∷ []) (listed first) tt
+small s = fits (known _ 805306368 (end_within s.requires.0 s.requires.1.0 s.requires.1.1.0) ∷ []) (listed first) tt
 
 -- ---- the numerator
 
@@ -111,7 +111,7 @@ overflow_mul-bound-then-z1-below : tie.Need-overflow_mul-bound-then-z1-below
 overflow_mul-bound-then-z1-below c = fits (given c.before.before) (search code depth 30 fits 9000) tt
 
 nonzero_div-bound : tie.Need-nonzero_div-bound
-nonzero_div-bound c = (positive_bits w64 c.requires.piece_within.width.low, fits (given c.before.before) (search code depth 30 fits 9000) tt)
+nonzero_div-bound c = (positive_bits w64 c.requires.1.0.width.low, fits (given c.before.before) (search code depth 30 fits 9000) tt)
 
 overflow_cast-result : tie.Need-overflow_cast-result
 overflow_cast-result c = fits (given c.before.before) (search code depth 30 fits 9000) tt
@@ -123,7 +123,7 @@ returns-then-z1-below c =
     record {
       is =
           plain_is {Γ = given s} (search code depth 30 fits 9000) tt
-          ∙ quot_toward (s.args.unit *ℤ (pos 3 *ℤ s.args.z1)) s.requires.piece_within.width.low
+          ∙ quot_toward (s.args.unit *ℤ (pos 3 *ℤ s.args.z1)) s.requires.1.0.width.low
           ∙ toward_floor h (0≤_product (<ℤ→≤ℤ (up s)) (0≤_product (0≤_number 3) (not_falling s)))
           ∙ rising_bound (up s) (left_width s) (right_width s) (not_falling s) s.args.z2 (passed (given s) c.if-z1-below.true (search tests depth 30 fits 9000) tt);
     }

@@ -30,7 +30,7 @@ abbrev built : tie.Start invariant-loop-i decreases-loop-i → ℕ → ℤ
 built s = built_slope (to_z w64 (of_z w64 s.args.unit)) s.args.knots.now s.args.values.now
 
 overflow_sub-last : tie.Need-overflow_sub-last invariant-loop-i decreases-loop-i
-overflow_sub-last c = omega (arith, c.requires.points_within.count.low)
+overflow_sub-last c = omega (arith, c.requires.1.0.count.low)
 
 -- ---- before the loop: the first piece
 
@@ -43,7 +43,7 @@ step-z1-requires c κs = search rules
 loop-i-init : tie.Need-loop-i-init invariant-loop-i decreases-loop-i
 loop-i-init c = (
   omega arith,
-  omega (arith, c.requires.points_within.count.low),
+  omega (arith, c.requires.1.0.count.low),
   returned w64 c.step-h1.type_inv c.step-h1.ensures,
   returned w64 c.step-z1.type_inv c.step-z1.ensures,
   refl,
@@ -69,18 +69,18 @@ right_rise c = returned w64 c.step-z2.type_inv c.step-z2.ensures
 inner-requires : tie.Need-inner-requires invariant-loop-i decreases-loop-i
 inner-requires c κs =
     let s = c.before.before.before.before.before.before in
-    let p = s.requires.points_within in
+    let p = s.requires.1.0 in
     let i = c.loop-i.i in
     let inv = c.loop-i.invariant in
     let l = inner_point c.before.before in
-    record { unit_size = subst UnitSize (sym (to_z-of_z s.ranges.unit)) s.requires.unit_size; piece_within = piece_within (i - 1) p (omega (arith, l, inv.0)) inv.2 inv.3; piece_within_2 = piece_within i p l (right_width c.before) (right_rise c) }
+    (subst UnitSize (sym (to_z-of_z s.ranges.unit)) s.requires.0, (piece_within (i - 1) p (omega (arith, l, inv.0)) inv.2 inv.3, piece_within i p l (right_width c.before) (right_rise c)))
 
 -- ---- its slope is put into its place, and the list is as long as it was
 
 full : (c : tie.At-loop-i invariant-loop-i decreases-loop-i) → length c.loop-i.slopes ≡ length c.args.knots.now
 full c =
     let s = c.args in
-    ap length c.loop-i.invariant.4 ∙ length_put (built c.before.before.before) 1 s.slopes.now (c.loop-i.i - 1) ∙ c.requires.slopes_len
+    ap length c.loop-i.invariant.4 ∙ length_put (built c.before.before.before) 1 s.slopes.now (c.loop-i.i - 1) ∙ c.requires.1.1
 
 offset_bounds-slopes-i : tie.Need-offset_bounds-slopes-i invariant-loop-i decreases-loop-i
 offset_bounds-slopes-i c = let l = inner_point c.before.before.before in search rules
@@ -119,7 +119,7 @@ loop-i-preserved c =
 -- ---- behind the loop
 
 shape_of-slopes : tie.Need-shape_of-slopes invariant-loop-i decreases-loop-i
-shape_of-slopes c = full c.before ∙ sym c.requires.slopes_len
+shape_of-slopes c = full c.before ∙ sym c.requires.1.1
 
 returns : tie.Need-returns invariant-loop-i decreases-loop-i
 returns c =

@@ -51,10 +51,10 @@ unit-unit-requires c κs = unit_asked c.if-refusal-ne-DONE.false c.points-refusa
 
 -- the unit, as it is handed on, and the slope of each point in it
 handed : (c : tie.After-unit-unit) → to_z w64 (of_z w64 c.unit-unit.result) ≡ unit (start c.before).args.s
-handed c = returned w64 c.unit-unit.type_inv c.unit-unit.ensures.value
+handed c = returned w64 c.unit-unit.type_inv c.unit-unit.ensures.0
 
 sized : (c : tie.After-unit-unit) → UnitSize (to_z w64 (of_z w64 c.unit-unit.result))
-sized c = as_coded₁ (known_unit c.unit-unit.result c.unit-unit.ensures.unit_size ∷ []) UnitSize (search arguments depth 30 fits 9000) tt c.unit-unit.ensures.unit_size
+sized c = as_coded₁ (known_unit c.unit-unit.result c.unit-unit.ensures.1 ∷ []) UnitSize (search arguments depth 30 fits 9000) tt c.unit-unit.ensures.1
 
 abbrev built : tie.After-unit-unit → ℕ → ℤ
 built c = let s = (start c.before).args in built_slope (to_z w64 (of_z w64 c.unit-unit.result)) s.knots.now s.values.now
@@ -70,7 +70,7 @@ renew-requires : tie.Need-renew-requires
 renew-requires c κs =
     let u = c.before in
     let p = accepted u.before in
-    record { unit_size = sized u; points_within = p; slopes_len = as_many u.before; from_le_to = omega arith; to_in_bounds = omega (arith, p.count.low) }
+    (sized u, (p, (as_many u.before, (omega arith, omega (arith, p.count.low)))))
 
 begun : (c : tie.After-renew) → c.renew.new.1.1.1.0 ≡ put (built (first c)) 0 1 (start (first c).before).args.slopes.now
 begun c = c.renew.ensures
@@ -79,7 +79,7 @@ inner-requires : tie.Need-inner-requires
 inner-requires c κs =
     let d = c.before.before in
     let u = first d in
-    record { unit_size = sized u; points_within = accepted u.before; slopes_len = ap length (begun d) ∙ length_put (built u) 0 (start u.before).args.slopes.now 1 ∙ as_many u.before }
+    (sized u, (accepted u.before, ap length (begun d) ∙ length_put (built u) 0 (start u.before).args.slopes.now 1 ∙ as_many u.before))
 
 between : (c : tie.After-inner) → let u = first (run c) in let s = (start u.before).args in c.inner.new.1.1.1.0 ≡ put (built u) 1 (length s.knots.now - 2) (put (built u) 0 1 s.slopes-1.now)
 between c =
@@ -100,7 +100,7 @@ renew-requires-2 : tie.Need-renew-requires-2
 renew-requires-2 c κs =
     let u = first (run c.before.before) in
     let d = u.before in
-    record { unit_size = sized u; points_within = accepted d; slopes_len = full c.before.before ∙ as_many d; from_le_to = omega (arith, (accepted d).count.low); to_in_bounds = omega arith }
+    (sized u, (accepted d, (full c.before.before ∙ as_many d, (omega (arith, (accepted d).count.low), omega arith))))
 
 -- the last slope is in its place
 ended : (c : tie.After-renew-2) → let u = first (run c.before.before.before) in let s = (start u.before).args in let n = length s.knots.now in

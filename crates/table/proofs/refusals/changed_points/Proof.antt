@@ -42,7 +42,7 @@ equally_long c = lengths_asked c.if-outlined-ne-DONE.false c.outline-outlined.en
 all_after-requires : tie.Need-all_after-requires
 all_after-requires c κs =
     let e = c.before.before in
-    record { paired = record { lengths = (equally_long e).values; count = count_asked e.if-outlined-ne-DONE.false e.outline-outlined.ensures }; point_in_bounds = is_there c }
+    (record { lengths = (equally_long e).values; count = count_asked e.if-outlined-ne-DONE.false e.outline-outlined.ensures }, is_there c)
 
 -- what is answered of the points as they would be, where 12, 1, 2 and 7 have passed
 abbrev start : tie.Else-knots-change → tie.Start
@@ -68,7 +68,7 @@ first-requires : tie.Need-first-requires
 first-requires c κs =
     let e = c.before.before in
     let o = e.before.before in
-    record { unit_within = unit_asked o.if-outlined-ne-DONE.false o.outline-outlined.ensures; askable = record { low = omega arith; high = omega arith }; same_lengths = equally_long o; knots_nonzero = omega (arith, is_there e) }
+    (unit_asked o.if-outlined-ne-DONE.false o.outline-outlined.ensures, (record { low = omega arith; high = omega arith }, (equally_long o, omega (arith, is_there e))))
 
 steps : (c : tie.After-first) → Given (Holds (then c.before.before.before)) (3 ∷ 4 ∷ []) c.first.result.number c.first.result.place
 steps c = c.first.ensures

@@ -18,7 +18,7 @@ returns-then-outlined-ne-DONE c = stopped (3 ∷ 4 ∷ 5 ∷ []) c.if-outlined-n
 first-requires : tie.Need-first-requires
 first-requires c κs =
     let g = c.outline-outlined.ensures in
-    record { unit_within = unit_asked c.if-outlined-ne-DONE.false g; askable = record { low = omega arith; high = omega arith }; same_lengths = lengths_asked c.if-outlined-ne-DONE.false g; knots_nonzero = omega (arith, (count_asked c.if-outlined-ne-DONE.false g).low) }
+    (unit_asked c.if-outlined-ne-DONE.false g, (record { low = omega arith; high = omega arith }, (lengths_asked c.if-outlined-ne-DONE.false g, omega (arith, (count_asked c.if-outlined-ne-DONE.false g).low))))
 
 -- what the search answers
 steps : (c : tie.After-first) → let s = c.args in Given (Holds (table s.s s.knots.now s.values.now s.slopes.now)) (3 ∷ 4 ∷ 5 ∷ []) c.first.result.number c.first.result.place

@@ -27,7 +27,7 @@ overflow_sub-knots : tie.Need-overflow_sub-knots
 overflow_sub-knots c = omega (arith, (paired c).count.low)
 
 all-requires : tie.Need-all-requires
-all-requires c κs = record { paired = paired c; from_le_end = (omega arith, omega (arith, (paired c).count.low)) }
+all-requires c κs = (paired c, (omega arith, omega (arith, (paired c).count.low)))
 
 returns-then-all : tie.Need-returns-then-all
 returns-then-all c =
@@ -37,7 +37,7 @@ returns-then-all c =
 first-requires : tie.Need-first-requires
 first-requires c κs =
     let e = c.before.before in
-    record { unit_within = unit_asked e.if-outlined-ne-DONE.false e.outline-outlined.ensures; askable = record { low = omega arith; high = omega arith }; same_lengths = equally_long e; knots_nonzero = omega (arith, (paired e).count.low) }
+    (unit_asked e.if-outlined-ne-DONE.false e.outline-outlined.ensures, (record { low = omega arith; high = omega arith }, (equally_long e, omega (arith, (paired e).count.low))))
 
 -- what the search answers
 steps : (c : tie.After-first) → let s = c.args in Given (Holds (table s.s s.knots.now s.values.now s.slopes.now)) (3 ∷ 4 ∷ []) c.first.result.number c.first.result.place

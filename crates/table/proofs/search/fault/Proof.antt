@@ -22,11 +22,11 @@ abbrev given : tie.Start → List Known
 given s =
     let l = s.args.left in
     let r = s.args.right in
-    known_unit s.args.unit s.requires.unit_size
-    ∷ known l.knot _ s.requires.within.0
-    ∷ known r.knot _ s.requires.within.1
-    ∷ known l.value _ s.requires.within_2.0
-    ∷ known r.value _ s.requires.within_2.1
+    known_unit s.args.unit s.requires.0
+    ∷ known l.knot _ s.requires.1.0.0
+    ∷ known r.knot _ s.requires.1.0.1
+    ∷ known l.value _ s.requires.1.1.0
+    ∷ known r.value _ s.requires.1.1.1
     ∷ []
 
 -- ---- the width
@@ -94,7 +94,10 @@ before_z c = c.before.before.before.before.before.before.before
 is_monotone-requires : tie.Need-is_monotone-requires
 is_monotone-requires c κs =
     let e = c.before.before in
-    let s = start (before_z e) in record { unit_size = as_coded₁ (given s) UnitSize (search arguments depth 30 fits 9000) tt s.requires.unit_size; width_within = told (before_z e).width_within.ensures (not-false _ (before_z e).if-not-width_within.false); rise_within = told e.rise_within.ensures (not-false _ e.if-not-rise_within.false) }
+    let s = start (before_z e) in (
+      as_coded₁ (given s) UnitSize (search arguments depth 30 fits 9000) tt s.pre.0,
+      (told (before_z e).width_within.ensures (not-false _ (before_z e).if-not-width_within.false), told e.rise_within.ensures (not-false _ e.if-not-rise_within.false)),
+    )
 
 monotone : (c : tie.After-is_monotone) → let s = start (before_z c.before.before.before) in Decided (Monotone s.args.unit (h s) (z s) s.args.left.slope s.args.right.slope) c.is_monotone.result
 monotone c =

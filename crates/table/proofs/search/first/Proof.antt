@@ -37,7 +37,7 @@ there c =
     let start = c.before.before.before in
     let s = start.args in
     standing_there (cause start) (above_3 c) c.loop-number.invariant _
-    (λ d q a b. asked_there s.points (table s.s s.knots.now s.values.now s.slopes.now) d q a (omega (arith, b, start.requires.askable.high)))
+    (λ d q a b. asked_there s.points (table s.s s.knots.now s.values.now s.slopes.now) d q a (omega (arith, b, start.requires.1.0.high)))
 
 overflow_sub-number : tie.Need-overflow_sub-number invariant-loop-number decreases-loop-number
 overflow_sub-number c = search rules
@@ -49,7 +49,7 @@ scan-earlier-requires : tie.Need-scan-earlier-requires invariant-loop-number dec
 scan-earlier-requires c κs =
     let s = c.before.before.before in
     let inv = c.loop-number.invariant in
-    record { unit_within = s.requires.unit_within; askable = record { low = omega (arith, above_3 c); high = omega (arith, standing_within (cause s) inv, s.requires.askable.high) }; same_lengths = s.requires.same_lengths; from_in_bounds = there c }
+    (s.requires.0, (record { low = omega (arith, above_3 c); high = omega (arith, standing_within (cause s) inv, s.requires.1.0.high) }, (s.requires.1.1.0, there c)))
 
 -- what is asked there: what comes before the number that stands, from the next piece on
 behind : (c : tie.After-scan-earlier invariant-loop-number decreases-loop-number) → let w = c.before in Scanned (cause w.before.before.before) (w.loop-number.number - 1) (w.loop-number.place + 1) c.scan-earlier.result.number c.scan-earlier.result.place
@@ -70,13 +70,13 @@ loop-number-preserved c =
 returns-after-loop-number : tie.Need-returns-after-loop-number invariant-loop-number decreases-loop-number
 returns-after-loop-number c =
     let s = c.before.before.before in
-    settles (cause s) s.requires.askable.low c.loop-number.invariant (none_before (cause s) (λ (l : 3 < c.loop-number.number). omega (arith, l, c.loop-number-test.false)))
+    settles (cause s) s.requires.1.0.low c.loop-number.invariant (none_before (cause s) (λ (l : 3 < c.loop-number.number). omega (arith, l, c.loop-number-test.false)))
 
 returns-then-earlier-eq-DONE : tie.Need-returns-then-earlier-eq-DONE invariant-loop-number decreases-loop-number
 returns-then-earlier-eq-DONE c =
     let w = c.before.before.before in
     let s = w.before.before.before in
-    settles (cause s) s.requires.askable.low w.loop-number.invariant (none_behind (cause s) (above_3 w) c.if-earlier-eq-DONE.true w.loop-number.invariant (behind c.before.before))
+    settles (cause s) s.requires.1.0.low w.loop-number.invariant (none_behind (cause s) (above_3 w) c.if-earlier-eq-DONE.true w.loop-number.invariant (behind c.before.before))
 
 pub first_spec : {M : Type 1} → statement M
 first_spec =

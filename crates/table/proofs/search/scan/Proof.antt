@@ -25,13 +25,13 @@ abbrev decreases-loop-i : tie.decreases-loop-i
 decreases-loop-i s points last knots values slopes from unit₀ i₀ number₀ left₀ i number left = length knots - i
 
 unit-unit-requires : tie.Need-unit-unit-requires invariant-loop-i decreases-loop-i
-unit-unit-requires c κs = c.requires.unit_within
+unit-unit-requires c κs = c.requires.0
 
 end_at-left-requires : tie.Need-end_at-left-requires invariant-loop-i decreases-loop-i
 end_at-left-requires c κs = c.requires.1.1
 
 loop-i-init : tie.Need-loop-i-init invariant-loop-i decreases-loop-i
-loop-i-init c = (omega arith, c.requires.from_in_bounds, c.end_at-left.ensures, λ q l k. absurd (omega (arith, l, k)))
+loop-i-init c = (omega arith, c.requires.1.1.1, c.end_at-left.ensures, λ q l k. absurd (omega (arith, l, k)))
 
 overflow_sub-knots : tie.Need-overflow_sub-knots invariant-loop-i decreases-loop-i
 overflow_sub-knots c = search rules
@@ -44,7 +44,7 @@ abbrev cause : tie.Start invariant-loop-i decreases-loop-i → ℕ → ℕ → T
 cause s = Holds (asked s.args.points (given s))
 
 there : (s : tie.Start invariant-loop-i decreases-loop-i) (c q : ℕ) → 3 ≤ c → c ≤ s.args.last → cause s c q → q + 1 < length s.args.knots.now
-there s c q a b = asked_there s.args.points (given s) c q a (omega (arith, b, s.requires.askable.high))
+there s c q a b = asked_there s.args.points (given s) c q a (omega (arith, b, s.requires.1.0.high))
 
 returns-then-knots-i-lt2 : tie.Need-returns-then-knots-i-lt2 invariant-loop-i decreases-loop-i
 returns-then-knots-i-lt2 c =
@@ -55,7 +55,7 @@ overflow_add-i : tie.Need-overflow_add-i invariant-loop-i decreases-loop-i
 overflow_add-i c = search rules
 
 end_at-right-requires : tie.Need-end_at-right-requires invariant-loop-i decreases-loop-i
-end_at-right-requires c κs = record { same_lengths = c.requires.same_lengths; i_in_bounds = omega (arith, c.if-knots-i-lt2.false) }
+end_at-right-requires c κs = (c.requires.1.1.0, omega (arith, c.if-knots-i-lt2.false))
 
 -- where the unit was worked out
 abbrev before_loop : tie.After-end_at-right invariant-loop-i decreases-loop-i → tie.After-unit-unit invariant-loop-i decreases-loop-i
@@ -65,7 +65,10 @@ fault-number-requires : tie.Need-fault-number-requires invariant-loop-i decrease
 fault-number-requires c κs =
     let l = c.loop-i.invariant.2 in
     let r = c.end_at-right.ensures in
-    let u = (before_loop c).unit-unit in record { unit_size = as_coded₁ (known_unit u.result u.ensures.1 ∷ []) UnitSize (search arguments depth 30 fits 9000) tt u.ensures.1; within = (l.knot_read.within, r.knot_read.within); within_2 = (l.value_read.within, r.value_read.within) }
+    let u = (before_loop c).unit-unit in (
+      as_coded₁ (known_unit u.result u.ensures.1 ∷ []) UnitSize (search arguments depth 30 fits 9000) tt u.ensures.1,
+      ((l.knot_read.within, r.knot_read.within), (l.value_read.within, r.value_read.within)),
+    )
 
 -- what is found of the piece between the two
 found : (c : tie.After-fault-number invariant-loop-i decreases-loop-i)
@@ -75,7 +78,7 @@ found c =
     let p = c.before.before in
     let u = before_loop c.before in
     let s = u.before in
-    fault_between s.args.points (given s) s.requires.askable (omega (arith, p.if-knots-i-lt2.false)) (returned w64 u.unit-unit.ok u.unit-unit.ensures.value) p.loop-i.invariant.2 c.end_at-right.ensures c.fault-number.ensures
+    fault_between s.args.points (given s) s.pre.1.0 (omega (arith, p.if-knots-i-lt2.false)) (returned w64 u.unit-unit.ok u.unit-unit.ensures.0) p.loop-i.invariant.2 c.end_at-right.ensures c.fault-number.ensures
 
 overflow_add-i-in-loop-i : tie.Need-overflow_add-i-in-loop-i invariant-loop-i decreases-loop-i
 overflow_add-i-in-loop-i c = let s = (before_loop c.before.before).before in search rules

@@ -23,15 +23,15 @@ abbrev decreases-loop-i : tie.decreases-loop-i
 decreases-loop-i knots values from end faults₀ i₀ faults i = end - i
 
 loop-i-init : tie.Need-loop-i-init invariant-loop-i decreases-loop-i
-loop-i-init c = (omega arith, c.requires.from_le_end.0, omega arith, record { sound = λ _. no_pieces (omega arith); none = λ _. omega arith })
+loop-i-init c = (omega arith, c.requires.1.0, omega arith, record { sound = λ _. no_pieces (omega arith); none = λ _. omega arith })
 
 -- ---- the width of piece i
 
 there : (c : tie.In-loop-i invariant-loop-i decreases-loop-i) → c.loop-i.i + 1 < length c.args.knots.now
-there c = omega (arith, c.loop-i-test.true, c.requires.from_le_end.1)
+there c = omega (arith, c.loop-i-test.true, c.requires.1.1)
 
 room : (c : tie.In-loop-i invariant-loop-i decreases-loop-i) → c.loop-i.i + 1 < 1024
-room c = omega (arith, there c, c.requires.paired.count.high)
+room c = omega (arith, there c, c.requires.0.count.high)
 
 step-requires : tie.Need-step-requires invariant-loop-i decreases-loop-i
 step-requires c κs = there c
@@ -56,7 +56,7 @@ overflow_add-faults c = let l = few c in let r = room c.before.before.before in 
 -- ---- its rise
 
 step-requires-in-loop-i : tie.Need-step-requires-in-loop-i invariant-loop-i decreases-loop-i
-step-requires-in-loop-i c κs = omega (arith, there c.before.before.before, c.requires.paired.lengths)
+step-requires-in-loop-i c κs = omega (arith, there c.before.before.before, c.requires.0.lengths)
 
 rise_within-requires : tie.Need-rise_within-requires invariant-loop-i decreases-loop-i
 rise_within-requires c κs = search rules

@@ -14,7 +14,7 @@ left_after-requires c κs = search rules
 returns-then-not-left_after : tie.Need-returns-then-not-left_after
 returns-then-not-left_after c =
     let l = c.before in
-    fails (λ p. denied l.left_after.ensures (not-true _ c.if-not-left_after.true) (fewer (omega arith) (omega (arith, l.requires.point_in_bounds)) p))
+    fails (λ p. denied l.left_after.ensures (not-true _ c.if-not-left_after.true) (fewer (omega arith) (omega (arith, l.requires.1)) p))
 
 right_after-requires : tie.Need-right_after-requires
 right_after-requires c κs = search rules

@@ -15,7 +15,7 @@ overflow_sub-k : tie.Need-overflow_sub-k
 overflow_sub-k c = search rules
 
 one_after-requires : tie.Need-one_after-requires
-one_after-requires c κs = record { paired = c.requires.paired; i_in_bounds = omega (arith, c.if-k-eq0.false, c.requires.point_in_bounds) }
+one_after-requires c κs = (c.requires.0, omega (arith, c.if-k-eq0.false, c.requires.1))
 
 returns-then-not-one_after : tie.Need-returns-then-not-one_after
 returns-then-not-one_after c =
@@ -26,7 +26,7 @@ overflow_sub-k-2 : tie.Need-overflow_sub-k-2
 overflow_sub-k-2 c = omega (arith, c.if-k-eq0.false)
 
 all-requires : tie.Need-all-requires
-all-requires c κs = let s = c.before.before.before in record { paired = s.requires.paired; from_le_end = (omega arith, omega (arith, s.requires.point_in_bounds)) }
+all-requires c κs = let s = c.before.before.before in (s.requires.0, (omega arith, omega (arith, s.requires.1)))
 
 returns : tie.Need-returns
 returns c =
