@@ -87,9 +87,9 @@ returns-in-On c =
     let on = spot k in
     let at = k.in-On.spot in
     record {
-      refusal = none_refused e.check-refusal.ensures e.if-refusal-ne-DONE.left on.0;
+      refusal = none_refused e.check-refusal.ensures e.if-refusal-ne-DONE.false on.0;
       value =
-          right_answer e.if-refusal-ne-DONE.left
+          right_answer e.if-refusal-ne-DONE.false
           (record {
             piece = at.piece;
             belongs = on.1.belongs;

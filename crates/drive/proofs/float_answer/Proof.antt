@@ -106,7 +106,7 @@ returns-in-On c =
     let on = spot k in
     let at = k.in-On.spot in
     let r = c.answer_on.result in
-    driving_on (accepted e) on.1.belongs e.if-refusal-ne-DONE.left (none_refused e.check-refusal.ensures e.if-refusal-ne-DONE.left on.0)
+    driving_on (accepted e) on.1.belongs e.if-refusal-ne-DONE.false (none_refused e.check-refusal.ensures e.if-refusal-ne-DONE.false on.0)
     (of_spot (λ (left h z m n t : ℤ). AnsweredOn (unit e.args.s) at.piece left h z m n t r.refusal.number r.refusal.place (told_of r.answer)) on.1
     (subst (λ (U : ℤ). AnsweredOn U at.piece at.left at.h at.z at.m at.n at.t r.refusal.number r.refusal.place (told_of r.answer)) (handed u) c.answer_on.ensures))
 

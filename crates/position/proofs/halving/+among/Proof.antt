@@ -41,10 +41,10 @@ module _ {t : ℕ} (s : among-lts.Start (lies-before-reads.Asked, lies-before-re
   handed = to_z w32 (of_z w32 s.args.position)
 
   handed_on : Among s.args.knots.now.now handed s.args.first s.args.end
-  handed_on = subst (λ (x : ℤ). Among s.args.knots.now.now x s.args.first s.args.end) (sym (to_z-of_z s.fits.position)) s.pre.1
+  handed_on = subst (λ (x : ℤ). Among s.args.knots.now.now x s.args.first s.args.end) (sym (to_z-of_z s.ranges.position)) s.requires.1
 
   handed_back : {i : ℕ} → Belongs s.args.knots.now.now handed i → Belongs s.args.knots.now.now s.args.position i
-  handed_back {i} = subst (λ (x : ℤ). Belongs s.args.knots.now.now x i) (to_z-of_z s.fits.position)
+  handed_back {i} = subst (λ (x : ℤ). Belongs s.args.knots.now.now x i) (to_z-of_z s.ranges.position)
 
 -- where more than one piece is left, either half has a halving less to go
 module _ {t : ℕ} (c : among-lts.Else1 (lies-before-reads.Asked, lies-before-reads.Learnt, among_below t, among.Post) (among_at t) among.Post) where

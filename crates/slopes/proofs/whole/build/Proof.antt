@@ -132,7 +132,7 @@ returns c =
     let s = (start d).args in
     record {
       refusal = d.points-refusal.ensures;
-      slopes = all_built c.before ∙ replaced s.slopes-1.now (built_slopes (unit s.s) s.knots.now s.values.now) d.if-refusal-ne-DONE.left;
+      slopes = all_built c.before ∙ replaced s.slopes-1.now (built_slopes (unit s.s) s.knots.now s.values.now) d.if-refusal-ne-DONE.false;
     }
 
 pub build_spec : {M : Type 1} → statement M

@@ -5,7 +5,6 @@ use native.Mathlib.Omega.{arith}
 use lib.IntN.{ℤ, ◌-ℤ◌}
 use mir.Syntax.{w32}
 use borrow.Author.Rules.{rules}
-use borrow.Author.Tests.{not-false}
 use Rattle.integers.specs.Promise.{Decided}
 use Rattle.integers.specs.Decided.{told, denied, asked}
 use Rattle.integers.specs.Sizes.{Known, known, held, fits, plain_is, code}
@@ -95,8 +94,8 @@ is_monotone-requires : tie.Need-is_monotone-requires
 is_monotone-requires c κs =
     let e = c.before.before in
     let s = start (before_z e) in (
-      as_coded₁ (given s) UnitSize (search arguments depth 30 fits 9000) tt s.pre.0,
-      (told (before_z e).width_within.ensures (not-false _ (before_z e).if-not-width_within.false), told e.rise_within.ensures e.if-not-rise_within.false),
+      as_coded₁ (given s) UnitSize (search arguments depth 30 fits 9000) tt s.requires.0,
+      (told (before_z e).width_within.ensures (before_z e).if-not-width_within.false, told e.rise_within.ensures e.if-not-rise_within.false),
     )
 
 monotone : (c : tie.After-is_monotone) → let s = start (before_z c.before.before.before) in Decided (Monotone s.args.unit (h s) (z s) s.args.left.slope s.args.right.slope) c.is_monotone.result
