@@ -94,7 +94,7 @@ returns-in-Judged c = known line_of c.in-Judged.is c.parts_of_verdict.ensures
 returns-in-Valued : tie.Need-returns-in-Valued
 unfolding filled line_of
 returns-in-Valued c =
-    let fits : SFits w32 c.in-Valued.v.value = record { sfits = c.struct_told-1.given.1.0.1 } in
+    let fits : SFits w32 c.in-Valued.v.value = search rules in
     let number = c.whole32.ensures ∙ ap whole_as (to_z-of_z fits) in
     let parts = c.with_number.ensures ∙ ap (λ (first : Signed). numbers 17 first (natural_as 0) (natural_as 0)) number in
     known line_of c.in-Valued.is (said_unless c.in-Valued.v.refusal c.unless_refused-in-Valued.ensures (record { said = ap written parts }))
