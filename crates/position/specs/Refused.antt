@@ -26,6 +26,7 @@ module _ {t : Table} {x : ℤ} where
   taken_inside b = passed (λ p h. no p h) done
     where
       no : (p : ℕ) → HoldsAt t x 6 p → ⊥
+      no p (of_table h) = elim h [ ]
       no p (position_outside f) = f b
 
   -- what the table check and the position make of an evaluation's refusal

@@ -70,6 +70,7 @@ module _ (c : Change) (t : Table) where
   refused_nowhere l = refused (no_such_point (λ (k : c.point < point_count t). omega arith)) (λ _ l _. absurd (omega (arith, l)))
 
   there : c.point < point_count t → (p : ℕ) → HoldsAfter c t 7 p → ⊥
+  there l p (of_points h) = elim h [ ]
   there l p (no_such_point f) = f l
 
   pub taken_there : c.point < point_count t → Given (HoldsAfter c t) (7 ∷ []) 0 0

@@ -44,7 +44,7 @@ pub record Read (x r : ℤ) : Type 0 where
   pub within : Within 2147483648 r
 
 pub as_read : {x r : ℤ} → mag r < 2 ^ 63 → Read x r → Read x (to_z w64 (of_z w64 r))
-as_read {x} ok = subst (Read x) (sym (to_z-of_z (record { sfits = ok })))
+as_read {x} ok = subst (Read x) (sym (to_z-of_z {w = w64} (record { sfits = ok })))
 
 -- a list with a new entry as it came in
 pub as_it_came : (list : List ℤ) (at : ℕ) {new : ℤ} → SFits w32 new → set list at (to_z w32 (of_z w32 new)) ≡ set list at new

@@ -121,7 +121,7 @@ shape_of-values c = search rules
 shape_of-slopes : tie.Need-shape_of-slopes
 shape_of-slopes c = search rules
 
-new_slopes : (c : tie.After-slopes-1) → let s = start c.before.before.before.before.before.before in c.renew.new.1.1.1.0 ≡ renewed_slopes s.args.change (old s)
+new_slopes : (c : tie.After-slopes-1) → let s = start c.before.before.before.before.before.before in c.renew.new.slopes ≡ renewed_slopes s.args.change (old s)
 new_slopes c =
     let u = c.before.before.before in
     let e = u.before in

@@ -45,7 +45,7 @@ enum_told-1 c = search rules
 
 returns-in-Outside : tie.Need-returns-in-Outside
 returns-in-Outside c =
-    let k = c.before.before in
+    let k = c.before in
     let e = k.before in
     record {
       refusal = position_refused e.check-refusal.ensures e.if-refusal-ne-DONE.false (sought_outside (subst (SoughtIn _ _ _ _) c.in-Outside.is (sought k)));
@@ -56,40 +56,40 @@ enum_known-spot : tie.Need-enum_known-spot
 enum_known-spot c = search rules
 
 -- within the knots, and where in its piece
-spot : (c : tie.In-On-2)
-    → let s = c.before.before.before.before.before.before in
+spot : (c : tie.In-On)
+    → let s = c in
     let r = c.in-On.spot in
     WithinKnots s.args.knots.now s.args.position × SpotOn s.args.knots.now s.args.values.now s.args.slopes.now r.piece s.args.position r.left r.h r.z r.m r.n r.t
-spot c = sought_on (subst (SoughtIn _ _ _ _) c.in-On.is (sought c.before.before))
+spot c = sought_on (subst (SoughtIn _ _ _ _) c.in-On.is (sought c.before))
 
 -- where nothing refuses
-abbrev here : tie.In-On-2 → tie.Else-refusal-ne-DONE
-here c = c.before.before.before
+abbrev here : tie.In-On → tie.Else-refusal-ne-DONE
+here c = c.before.before
 
 unit-requires : tie.Need-unit-requires
-unit-requires c κs = (accepted (here c.before)).unit
+unit-requires c κs = (accepted (here c)).unit
 
 -- the unit, as it is handed on
-handed : (c : tie.After-unit) → to_z w64 (of_z w64 c.unit.result) ≡ unit (here c.before.before).args.s
+handed : (c : tie.After-unit) → to_z w64 (of_z w64 c.unit.result) ≡ unit c.args.s
 handed c = returned w64 c.unit.type_inv c.unit.ensures.0
 
 value_on-value-requires : tie.Need-value_on-value-requires
 value_on-value-requires c κs =
-    let k = c.before.before in
+    let k = c.before in
     let r = k.in-On.spot in
     (subst (λ (U : ℤ). InPiece U r.h r.z r.m r.n r.t) (sym (handed c)) (inside_spot (accepted (here k)) (spot k).1), (spot k).1.right_fits)
 
 returns-in-On : tie.Need-returns-in-On
 returns-in-On c =
     let u = c.before in
-    let k = u.before.before in
+    let k = u.before in
     let e = here k in
     let on = spot k in
     let at = k.in-On.spot in
     record {
-      refusal = none_refused e.check-refusal.ensures e.if-refusal-ne-DONE.left on.0;
+      refusal = none_refused e.check-refusal.ensures e.if-refusal-ne-DONE.false on.0;
       value =
-          right_answer e.if-refusal-ne-DONE.left
+          right_answer e.if-refusal-ne-DONE.false
           (record {
             piece = at.piece;
             belongs = on.1.belongs;

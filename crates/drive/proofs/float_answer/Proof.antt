@@ -64,7 +64,7 @@ enum_told-1 c = search rules
 
 returns-in-Outside : tie.Need-returns-in-Outside
 returns-in-Outside c =
-    let k = c.before.before.before in
+    let k = c.before.before in
     let e = k.before in
     rests c.refused-in-Outside.ensures.0 c.refused-in-Outside.ensures.1 (λ n. omega (arith, n))
     (position_refused e.check-refusal.ensures e.if-refusal-ne-DONE.false (sought_outside (subst (SoughtIn _ _ _ _) c.in-Outside.is (sought k))))
@@ -79,11 +79,11 @@ spot : (c : tie.In-On-2)
     → let s = c.before.before.before.before.before.before in
     let r = c.in-On.spot in
     WithinKnots s.args.knots.now s.args.position × SpotOn s.args.knots.now s.args.values.now s.args.slopes.now r.piece s.args.position r.left r.h r.z r.m r.n r.t
-spot c = sought_on (subst (SoughtIn _ _ _ _) c.in-On.is (sought c.before.before))
+spot c = sought_on (subst (SoughtIn _ _ _ _) c.in-On.is (sought c.before))
 
 -- where nothing before it refuses
 abbrev here : tie.In-On-2 → tie.Else-refusal-ne-DONE
-here c = c.before.before.before
+here c = c.before.before
 
 unit-requires : tie.Need-unit-requires
 unit-requires c κs = (accepted (here c.before)).unit
@@ -106,7 +106,7 @@ returns-in-On c =
     let on = spot k in
     let at = k.in-On.spot in
     let r = c.answer_on.result in
-    driving_on (accepted e) on.1.belongs e.if-refusal-ne-DONE.left (none_refused e.check-refusal.ensures e.if-refusal-ne-DONE.left on.0)
+    driving_on (accepted e) on.1.belongs e.if-refusal-ne-DONE.false (none_refused e.check-refusal.ensures e.if-refusal-ne-DONE.false on.0)
     (of_spot (λ (left h z m n t : ℤ). AnsweredOn (unit e.args.s) at.piece left h z m n t r.refusal.number r.refusal.place (told_of r.answer)) on.1
     (subst (λ (U : ℤ). AnsweredOn U at.piece at.left at.h at.z at.m at.n at.t r.refusal.number r.refusal.place (told_of r.answer)) (handed u) c.answer_on.ensures))
 

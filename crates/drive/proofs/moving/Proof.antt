@@ -50,7 +50,7 @@ module _ (c : tie.After-coefficients-cubic) where
       plainly₅ (given s) (λ (U h z m n : ℤ). Coefficients U h z m n r.first r.second r.third) c.coefficients-cubic.ensures (search code depth 30 fits 9000) (search arguments depth 30 fits 9000) tt
 
   steps : let r = c.coefficients-cubic.result in HornerWithin (2 ^ 53) r.first r.second r.third s.args.t s.args.h
-  steps = steps_exact s.pre.0 s.pre.1 are
+  steps = steps_exact s.requires.0 s.requires.1 are
 
   abbrev with_cubic : List Known
   with_cubic =

@@ -24,15 +24,15 @@ in_units-u-requires c κs =
     (as_coded₁ (given c) UnitSize (search arguments depth 30 fits 9000) tt c.requires.0, (sized (given c) (search code depth 30 fits 9000) tt, sized (given c) (search code depth 30 fits 9000) tt))
 
 -- Z, a and b
-units : (c : tie.After-in_units-u) → let s = c.args in let r = c.in_units_lem.result in UnitsOf s.unit s.h s.z s.m s.n r.rise r.a r.b
+units : (c : tie.After-in_units-u) → let s = c.args in let r = c.in_units-u.result in UnitsOf s.unit s.h s.z s.m s.n r.rise r.a r.b
 units c =
-    let r = c.in_units_lem.result in
-    plainly₅ (given c.before) (λ (U h z m n : ℤ). UnitsOf U h z m n r.rise r.a r.b) c.in_units_lem.ensures.0 (search code depth 30 fits 9000) (search arguments depth 30 fits 9000) tt
+    let r = c.in_units-u.result in
+    plainly₅ (given c.before) (λ (U h z m n : ℤ). UnitsOf U h z m n r.rise r.a r.b) c.in_units-u.ensures.0 (search code depth 30 fits 9000) (search arguments depth 30 fits 9000) tt
 
 abbrev made : tie.After-in_units-u → List Known
 made c =
-    let r = c.in_units_lem.result in
-    let m = c.in_units_lem.ensures.1 in
+    let r = c.in_units-u.result in
+    let m = c.in_units-u.ensures.1 in
     known r.rise _ m.rise ∷ known r.a _ m.start ∷ known r.b _ m.end ∷ []
 
 overflow_mul-second : tie.Need-overflow_mul-second

@@ -60,25 +60,25 @@ module _ (c : tie.After-in_units-u) where
   abbrev s : tie.Start
   s = c.before.before.before
 
-  units : let r = c.in_units_lem.result in UnitsOf s.args.unit (with_sign s.args.z s.args.h) (with_sign s.args.z s.args.z) s.args.m s.args.n r.rise r.a r.b
+  units : let r = c.in_units-u.result in UnitsOf s.args.unit (with_sign s.args.z s.args.h) (with_sign s.args.z s.args.z) s.args.m s.args.n r.rise r.a r.b
   units =
-      let r = c.in_units_lem.result in
+      let r = c.in_units-u.result in
       same₄ (λ (h z m n : ℤ). UnitsOf s.args.unit h z m n r.rise r.a r.b) (width c.before.before).is (rise c.before).is refl refl
-      (plainly₅ (after c.before) (λ (U h z m n : ℤ). UnitsOf U h z m n r.rise r.a r.b) c.in_units_lem.ensures.0 (search code depth 30 fits 9000) (search arguments depth 30 fits 9000) tt)
+      (plainly₅ (after c.before) (λ (U h z m n : ℤ). UnitsOf U h z m n r.rise r.a r.b) c.in_units-u.ensures.0 (search code depth 30 fits 9000) (search arguments depth 30 fits 9000) tt)
 
-  moderate : let r = c.in_units_lem.result in Moderate r.rise r.a r.b
-  moderate = c.in_units_lem.ensures.1
+  moderate : let r = c.in_units-u.result in Moderate r.rise r.a r.b
+  moderate = c.in_units-u.ensures.1
 
   abbrev made : List Known
   made =
-      let r = c.in_units_lem.result in
+      let r = c.in_units-u.result in
       known r.rise _ moderate.rise ∷ known r.a _ moderate.start ∷ known r.b _ moderate.end ∷ []
 
   -- what is never against the rise is the piece turned
-  turned_so : let r = c.in_units_lem.result in NeverAgainst r.rise r.a r.b → Turned s.args.unit s.args.h s.args.z s.args.m s.args.n
+  turned_so : let r = c.in_units-u.result in NeverAgainst r.rise r.a r.b → Turned s.args.unit s.args.h s.args.z s.args.m s.args.n
   turned_so = same₄ (λ (Z a b _ : ℤ). NeverAgainst Z a b) {u = pos 0} units.rise_is units.a_is units.b_is refl
 
-  so_turned : let r = c.in_units_lem.result in Turned s.args.unit s.args.h s.args.z s.args.m s.args.n → NeverAgainst r.rise r.a r.b
+  so_turned : let r = c.in_units-u.result in Turned s.args.unit s.args.h s.args.z s.args.m s.args.n → NeverAgainst r.rise r.a r.b
   so_turned = same₄ (λ (Z a b _ : ℤ). NeverAgainst Z a b) {u = pos 0} (sym units.rise_is) (sym units.a_is) (sym units.b_is) refl
 
 -- ---- the test

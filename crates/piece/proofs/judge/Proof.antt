@@ -1,6 +1,5 @@
 -- `piece::judge` meets its contract: each refusal holds by what the limits' tests say, and the verdict by the piece's being monotone and its rise's sign.
 use borrow.Author.Rules.{rules}
-use borrow.Author.Tests.{not-true, not-false}
 use mathlib.Core.Path.{sym, subst}
 use mathlib.Core.List.{List, [], ◌∷◌}
 use lib.IntN.{ℤ}
@@ -31,10 +30,10 @@ unit_within-requires : tie.Need-unit_within-requires
 unit_within-requires c κs = search rules
 
 returns-then-not-unit_within : tie.Need-returns-then-not-unit_within
-returns-then-not-unit_within c = unit_refused (denied c.unit_within.ensures (not-true _ c.if-not-unit_within.true))
+returns-then-not-unit_within c = unit_refused (denied c.unit_within.ensures c.if-not-unit_within.true)
 
 in_nine : (c : tie.Else-not-unit_within) → UnitWithin c.args.s
-in_nine c = told c.unit_within.ensures (not-false _ c.if-not-unit_within.false)
+in_nine c = told c.unit_within.ensures c.if-not-unit_within.false
 
 width_within-requires : tie.Need-width_within-requires
 width_within-requires c κs = search rules
@@ -43,7 +42,7 @@ returns-then-not-width_within : tie.Need-returns-then-not-width_within
 returns-then-not-width_within c =
     let p = c.before.before in
     width_refused (in_nine p)
-    (λ w. denied c.width_within.ensures (not-true _ c.if-not-width_within.true) (subst WidthWithin (sym (to_z-of_z p.ranges.h)) w))
+    (λ w. denied c.width_within.ensures c.if-not-width_within.true (subst WidthWithin (sym (to_z-of_z p.ranges.h)) w))
 
 rise_within-requires : tie.Need-rise_within-requires
 rise_within-requires c κs = search rules
@@ -52,7 +51,7 @@ abbrev start : tie.Else-not-width_within → tie.Start
 start c = c.before.before.before.before
 
 wide_enough : (c : tie.Else-not-width_within) → WidthWithin (to_z w64 (of_z w64 (start c).args.h))
-wide_enough c = told c.width_within.ensures (not-false _ c.if-not-width_within.false)
+wide_enough c = told c.width_within.ensures c.if-not-width_within.false
 
 width : (c : tie.Else-not-width_within) → WidthWithin (start c).args.h
 width c = subst WidthWithin (to_z-of_z (start c).ranges.h) (wide_enough c)
@@ -61,12 +60,12 @@ returns-then-not-rise_within : tie.Need-returns-then-not-rise_within
 returns-then-not-rise_within c =
     let p = c.before.before in
     rise_refused (in_nine p.before.before) (width p)
-    (λ r. denied c.rise_within.ensures (not-true _ c.if-not-rise_within.true) (subst RiseWithin (sym (to_z-of_z (start p).ranges.z)) r))
+    (λ r. denied c.rise_within.ensures c.if-not-rise_within.true (subst RiseWithin (sym (to_z-of_z (start p).ranges.z)) r))
 
 -- ---- within the limits
 
 risen_enough : (c : tie.Else-not-rise_within) → RiseWithin (to_z w64 (of_z w64 (start c.before.before).args.z))
-risen_enough c = told c.rise_within.ensures (not-false _ c.if-not-rise_within.false)
+risen_enough c = told c.rise_within.ensures c.if-not-rise_within.false
 
 rise : (c : tie.Else-not-rise_within) → RiseWithin (start c.before.before).args.z
 rise c = subst RiseWithin (to_z-of_z (start c.before.before).ranges.z) (risen_enough c)
@@ -100,10 +99,10 @@ module _ (c : tie.After-is_monotone) where
 
 returns-then-not-is_monotone : tie.Need-returns-then-not-is_monotone
 returns-then-not-is_monotone c =
-    let m = c.before in bent (u m) (width (within m).before.before) (rise (within m)) (denied (decided m) (not-true _ c.if-not-is_monotone.true))
+    let m = c.before in bent (u m) (width (within m).before.before) (rise (within m)) (denied (decided m) c.if-not-is_monotone.true)
 
 is_so : (c : tie.Else-not-is_monotone) → let a = (s c.before).args in Monotone (unit a.s) a.h a.z a.m a.n
-is_so c = told (decided c.before) (not-false _ c.if-not-is_monotone.false)
+is_so c = told (decided c.before) c.if-not-is_monotone.false
 
 returns-then-z-gt0 : tie.Need-returns-then-z-gt0
 returns-then-z-gt0 c =

@@ -6,7 +6,6 @@ use lib.Dec.{T, leb, leb→le}
 use lib.IntN.{ℤ, pos, neg_ℤ, ◌-ℤ◌, ◌*ℤ◌}
 use lib.Signed.{◌≤ℤ◌}
 use borrow.Author.Rules.{rules}
-use borrow.Author.Tests.{not-true, not-false}
 use Rattle.integers.specs.Promise.{Between, fails}
 use Rattle.integers.specs.Decided.{decided_by, told, denied}
 use Rattle.integers.specs.Ring.{ring, quote}
@@ -57,7 +56,7 @@ between-requires c κs = search rules
 returns-then-not-between : tie.Need-returns-then-not-between
 returns-then-not-between c =
     let s = c.before.before in
-    fails (λ f. denied c.between.ensures (not-true _ c.if-not-between.true)
+    fails (λ f. denied c.between.ensures c.if-not-between.true
     (as_coded₃ (given s) Between (search arguments depth 30 fits 9000) tt (within_times _ s.args.rise tt (start_not_against f) (start_below_four f))))
 
 overflow_mul-rise-2 : tie.Need-overflow_mul-rise-2
@@ -69,7 +68,7 @@ between-requires-2 c κs = search rules
 returns-then-not-between-2 : tie.Need-returns-then-not-between-2
 returns-then-not-between-2 c =
     let s = c.before.before.before.before in
-    fails (λ f. denied c.between-2.ensures (not-true _ c.if-not-between-2.true)
+    fails (λ f. denied c.between-2.ensures c.if-not-between-2.true
     (as_coded₃ (given s) Between (search arguments depth 30 fits 9000) tt (within_times _ s.args.rise tt (end_not_against f) (end_below_four f))))
 
 -- ---- the square, asked of sizes whose products fit
@@ -89,8 +88,8 @@ overflow_sub-a c = fits (given (s c)) (search code depth 30 fits 9000) tt
 square_within-requires : tie.Need-square_within-requires
 square_within-requires c κs =
     let Γ = given (s c) in
-    let a = plainly₃ Γ Between (told c.between.ensures (not-false _ c.if-not-between.false)) (search arguments depth 30 fits 9000) tt in
-    let b = plainly₃ Γ Between (told c.between-2.ensures (not-false _ c.if-not-between-2.false)) (search arguments depth 30 fits 9000) tt in
+    let a = plainly₃ Γ Between (told c.between.ensures c.if-not-between.false) (search arguments depth 30 fits 9000) tt in
+    let b = plainly₃ Γ Between (told c.between-2.ensures c.if-not-between-2.false) (search arguments depth 30 fits 9000) tt in
     let Δ = known (s c).args.rise (2 ^ 28) (s c).requires.rise ∷ known (s c).args.a _ (at_most_times _ (s c).requires.rise a) ∷ known (s c).args.b _ (at_most_times _ (s c).requires.rise b) ∷ [] in
     record {
       over = sized Δ (search code depth 30 fits 9000) tt;
@@ -100,11 +99,11 @@ square_within-requires c κs =
 
 start_up : (c : tie.Else-not-between-2) → pos 0 ≤ℤ (s c).args.a
 start_up c =
-    (plainly₃ (given (s c)) Between (told c.between.ensures (not-false _ c.if-not-between.false)) (search arguments depth 30 fits 9000) tt).low
+    (plainly₃ (given (s c)) Between (told c.between.ensures c.if-not-between.false) (search arguments depth 30 fits 9000) tt).low
 
 end_up : (c : tie.Else-not-between-2) → pos 0 ≤ℤ (s c).args.b
 end_up c =
-    (plainly₃ (given (s c)) Between (told c.between-2.ensures (not-false _ c.if-not-between-2.false)) (search arguments depth 30 fits 9000) tt).low
+    (plainly₃ (given (s c)) Between (told c.between-2.ensures c.if-not-between-2.false) (search arguments depth 30 fits 9000) tt).low
 
 returns : tie.Need-returns
 returns c =

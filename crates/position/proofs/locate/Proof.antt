@@ -41,7 +41,7 @@ sought c =
 
 returns-in-Outside : tie.Need-returns-in-Outside
 returns-in-Outside c =
-    let k = c.before.before in
+    let k = c.before in
     let e = k.before in
     record {
       refusal = position_refused e.check-refusal.ensures e.if-refusal-ne-DONE.false (sought_outside (subst (SoughtIn _ _ _ _) c.in-Outside.is (sought k)));
@@ -50,7 +50,7 @@ returns-in-Outside c =
 
 returns-in-On : tie.Need-returns-in-On
 returns-in-On c =
-    let k = c.before.before.before in
+    let k = c.before in
     let e = k.before in
     let on = sought_on (subst (SoughtIn _ _ _ _) c.in-On.is (sought k)) in
     record {

@@ -90,10 +90,10 @@ rise c =
     returned w64 c.difference-z.type_inv (c.difference-z.ensures ∙ plain_is {Γ = l ∷ r ∷ []} (search code depth 30 fits 9000) tt)
 
 slope : (c : tie.After-m-1) → let s = c.args in to_z w32 (of_z w32 (entry s.slopes.now s.i)) ≡ entry s.slopes.now s.i
-slope c = to_z-of_z (record { sfits = c.m-1.given })
+slope c = to_z-of_z {w = w32} (record { sfits = c.m-1.given })
 
 next_slope : (c : tie.After-n-1) → let s = c.args in to_z w32 (of_z w32 (entry s.slopes.now (s.i + 1))) ≡ entry s.slopes.now (s.i + 1)
-next_slope c = to_z-of_z (record { sfits = c.n-1.given })
+next_slope c = to_z-of_z {w = w32} (record { sfits = c.n-1.given })
 
 place : (c : tie.After-difference-t) → let s = c.args in to_z w64 (of_z w64 c.difference-t.result) ≡ s.position -ℤ entry s.knots.now s.i
 place c =

@@ -51,7 +51,7 @@ module _ (c : tie.After-coefficients-cubic) where
 
   small : let r = c.coefficients-cubic.result in Small r.first r.second r.third
   small =
-      let k = monotone_small {M = 268435456} s.pre.monotone (sized (given s) (search code depth 30 fits 9000) tt) in
+      let k = monotone_small {M = 268435456} s.requires.monotone (sized (given s) (search code depth 30 fits 9000) tt) in
       record {
         one = subst (Within _) (sym are.first_is) k.start;
         two = subst (Within _) (sym are.second_is) k.second;

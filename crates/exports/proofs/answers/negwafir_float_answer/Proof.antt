@@ -35,10 +35,10 @@ said : (c : tie.After-float_answer-driven)
 said c = rw (to_z-of_z c.ranges.position) at c.float_answer-driven.ensures
 
 returns-in-Dwell : tie.Need-returns-in-Dwell
-returns-in-Dwell c = dwells {level = c.in-Dwell.level} (rw c.in-Dwell.is at (said c.before.before.before.before)) zero_in_code one_in_code
+returns-in-Dwell c = dwells {level = c.in-Dwell.level} (rw c.in-Dwell.is at (said c.before.before)) zero_in_code one_in_code
 
 returns-in-Move : tie.Need-returns-in-Move
-returns-in-Move c = moves (rw c.in-Move.is at (said c.before.before.before.before))
+returns-in-Move c = moves (rw c.in-Move.is at (said c.before.before))
 
 pub negwafir_float_answer_spec : {M : Type 1} → statement M
 negwafir_float_answer_spec =

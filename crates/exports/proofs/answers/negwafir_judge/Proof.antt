@@ -29,19 +29,19 @@ said : (c : tie.After-judge) → let s = c.args in Judged s.s s.h s.z s.m s.n (r
 said c = let s = c.ranges in rw (to_z-of_z s.h, to_z-of_z s.z, to_z-of_z s.m, to_z-of_z s.n) at c.judge.ensures
 
 returns-in-Rising : tie.Need-returns-in-Rising
-returns-in-Rising c = judged {w = rising} (rw c.in-Rising.is at (said c.before.before))
+returns-in-Rising c = judged {w = rising} (rw c.in-Rising.is at (said c.before))
 
 returns-in-Falling : tie.Need-returns-in-Falling
-returns-in-Falling c = judged {w = falling} (rw c.in-Falling.is at (said c.before.before))
+returns-in-Falling c = judged {w = falling} (rw c.in-Falling.is at (said c.before))
 
 returns-in-Flat : tie.Need-returns-in-Flat
-returns-in-Flat c = judged {w = flat} (rw c.in-Flat.is at (said c.before.before))
+returns-in-Flat c = judged {w = flat} (rw c.in-Flat.is at (said c.before))
 
 returns-in-Bends : tie.Need-returns-in-Bends
-returns-in-Bends c = judged {w = bends} (rw c.in-Bends.is at (said c.before.before))
+returns-in-Bends c = judged {w = bends} (rw c.in-Bends.is at (said c.before))
 
 returns-in-Refused : tie.Need-returns-in-Refused
-returns-in-Refused c = judged {w = none} (rw c.in-Refused.is at (said c.before.before.before))
+returns-in-Refused c = judged {w = none} (rw c.in-Refused.is at (said c.before))
 
 pub negwafir_judge_spec : {M : Type 1} → statement M
 negwafir_judge_spec =

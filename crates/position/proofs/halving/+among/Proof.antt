@@ -29,11 +29,11 @@ among_at t = and 2 among-kinds.ps (is 2 among-kinds.ps μ_among t) among.Pre
 abbrev among_below : ℕ → In 2 among-kinds.ps
 among_below t = and 2 among-kinds.ps (falls 2 among-kinds.ps ◌<◌ μ_among t) among.Pre
 
-among_sub_count : (t : ℕ) → among-lts.Need-overflow-sub-count (lies-before-reads.Asked, lies-before-reads.Learnt, among_below t, among.Post) (among_at t) among.Post
+among_sub_count : (t : ℕ) → among-lts.Need-overflow_sub-count (lies-before-reads.Asked, lies-before-reads.Learnt, among_below t, among.Post) (among_at t) among.Post
 among_sub_count t c = omega (arith, c.requires.1.some)
 
-among_returns : (t : ℕ) → among-lts.Need-returns (lies-before-reads.Asked, lies-before-reads.Learnt, among_below t, among.Post) (among_at t) among.Post
-among_returns t c = the_only_one c.before.requires.1 c.if1.true
+among_returns : (t : ℕ) → among-lts.Need-returns-then-count-eq1 (lies-before-reads.Asked, lies-before-reads.Learnt, among_below t, among.Post) (among_at t) among.Post
+among_returns t c = the_only_one c.before.requires.1 c.if-count-eq1.true
 
 -- a position as the code hands it on is the position
 module _ {t : ℕ} (s : among-lts.Start (lies-before-reads.Asked, lies-before-reads.Learnt, among_below t, among.Post) (among_at t) among.Post) where
@@ -41,42 +41,42 @@ module _ {t : ℕ} (s : among-lts.Start (lies-before-reads.Asked, lies-before-re
   handed = to_z w32 (of_z w32 s.args.position)
 
   handed_on : Among s.args.knots.now.now handed s.args.first s.args.end
-  handed_on = subst (λ (x : ℤ). Among s.args.knots.now.now x s.args.first s.args.end) (sym (to_z-of_z s.fits.position)) s.pre.1
+  handed_on = subst (λ (x : ℤ). Among s.args.knots.now.now x s.args.first s.args.end) (sym (to_z-of_z s.ranges.position)) s.requires.1
 
   handed_back : {i : ℕ} → Belongs s.args.knots.now.now handed i → Belongs s.args.knots.now.now s.args.position i
-  handed_back {i} = subst (λ (x : ℤ). Belongs s.args.knots.now.now x i) (to_z-of_z s.fits.position)
+  handed_back {i} = subst (λ (x : ℤ). Belongs s.args.knots.now.now x i) (to_z-of_z s.ranges.position)
 
 -- where more than one piece is left, either half has a halving less to go
-module _ {t : ℕ} (c : among-lts.Else1 (lies-before-reads.Asked, lies-before-reads.Learnt, among_below t, among.Post) (among_at t) among.Post) where
+module _ {t : ℕ} (c : among-lts.Else-count-eq1 (lies-before-reads.Asked, lies-before-reads.Learnt, among_below t, among.Post) (among_at t) among.Post) where
   several : 1 < c.before.args.end - c.before.args.first
-  several = omega (arith, c.before.requires.1.some, c.if1.false)
+  several = omega (arith, c.before.requires.1.some, c.if-count-eq1.false)
 
   fewer_left : (m : ℕ) → m ≤ larger (c.before.args.end - c.before.args.first) → halvings m < t
   fewer_left m h = subst (λ (k : ℕ). halvings m < k) c.before.requires.0 (one_less (c.before.args.end - c.before.args.first) m several h)
 
-among_add_middle : (t : ℕ) → among-lts.Need-overflow-add-middle (lies-before-reads.Asked, lies-before-reads.Learnt, among_below t, among.Post) (among_at t) among.Post
+among_add_middle : (t : ℕ) → among-lts.Need-overflow_add-middle (lies-before-reads.Asked, lies-before-reads.Learnt, among_below t, among.Post) (among_at t) among.Post
 among_add_middle t c = let l = c.before.requires.1.some in search rules
 
-among_lies_before_requires : (t : ℕ) → among-lts.Need-lies-before-requires (lies-before-reads.Asked, lies-before-reads.Learnt, among_below t, among.Post) (among_at t) among.Post
+among_lies_before_requires : (t : ℕ) → among-lts.Need-lies_before-requires (lies-before-reads.Asked, lies-before-reads.Learnt, among_below t, among.Post) (among_at t) among.Post
 among_lies_before_requires t c κs = omega (arith, c.before.before.requires.1.some, c.before.before.requires.1.there)
 
 among_among_requires : (t : ℕ) → among-lts.Need-among-requires (lies-before-reads.Asked, lies-before-reads.Learnt, among_below t, among.Post) (among_at t) among.Post
 among_among_requires t c κs =
     let e = c.before.before.before in
     let l = several e in
-    (fewer_left e _ (omega arith), in_front (handed_on e.before) _ (omega (arith, l)) (omega (arith, l)) (told c.before.lies-before.ensures c.if2.true))
+    (fewer_left e _ (omega arith), in_front (handed_on e.before) _ (omega (arith, l)) (omega (arith, l)) (told c.before.lies_before.ensures c.if-lies_before.true))
 
-among_among_requires_2 : (t : ℕ) → among-lts.Need-among-requires-2 (lies-before-reads.Asked, lies-before-reads.Learnt, among_below t, among.Post) (among_at t) among.Post
+among_among_requires_2 : (t : ℕ) → among-lts.Need-among-requires-else-lies_before (lies-before-reads.Asked, lies-before-reads.Learnt, among_below t, among.Post) (among_at t) among.Post
 among_among_requires_2 t c κs =
     let e = c.before.before.before in
     let l = several e in
-    (fewer_left e _ (omega arith), in_rest (handed_on e.before) _ (omega (arith, l)) (denied c.before.lies-before.ensures c.if2.false))
+    (fewer_left e _ (omega arith), in_rest (handed_on e.before) _ (omega (arith, l)) (denied c.before.lies_before.ensures c.if-lies_before.false))
 
-among_returns_2 : (t : ℕ) → among-lts.Need-returns-2 (lies-before-reads.Asked, lies-before-reads.Learnt, among_below t, among.Post) (among_at t) among.Post
+among_returns_2 : (t : ℕ) → among-lts.Need-returns-then-lies_before (lies-before-reads.Asked, lies-before-reads.Learnt, among_below t, among.Post) (among_at t) among.Post
 among_returns_2 t c = handed_back c.before.before.before.before.before c.among.ensures
 
-among_returns_3 : (t : ℕ) → among-lts.Need-returns-3 (lies-before-reads.Asked, lies-before-reads.Learnt, among_below t, among.Post) (among_at t) among.Post
-among_returns_3 t c = handed_back c.before.before.before.before.before c.among2.ensures
+among_returns_3 : (t : ℕ) → among-lts.Need-returns-else-lies_before (lies-before-reads.Asked, lies-before-reads.Learnt, among_below t, among.Post) (among_at t) among.Post
+among_returns_3 t c = handed_back c.before.before.before.before.before c.among-else-lies_before.ensures
 
 pub +among_spec : {M : Type 1} → statement M
 +among_spec =

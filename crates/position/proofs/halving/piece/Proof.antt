@@ -1,4 +1,4 @@
--- `position::halving::piece` meets its contract: a position within the knots has its piece among all. The knots, whose reference is lent, are `t1` here.
+-- `position::halving::piece` meets its contract: a position within the knots has its piece among all.
 use mathlib.Core.Path.{sym, subst}
 use Prim.Native.Nat.{◌-◌}
 use borrow.Author.Rules.{rules}
@@ -16,11 +16,11 @@ overflow_sub-end c = search rules
 among-requires : tie.Need-among-requires
 among-requires c κs =
     let s = c.before in
-    subst (λ (x : ℤ). Among s.args.t1.now x 0 (length s.args.t1.now - 1)) (sym (to_z-of_z s.ranges.position)) (among_all s.requires.0 s.requires.1.1)
+    subst (λ (x : ℤ). Among s.args.knots.now x 0 (length s.args.knots.now - 1)) (sym (to_z-of_z s.ranges.position)) (among_all s.requires.0 s.requires.1.1)
 
 returns : tie.Need-returns
 returns c =
-    let s = c.before.before in subst (λ (x : ℤ). Belongs s.args.t1.now x c.among.result) (to_z-of_z s.ranges.position) c.among.ensures
+    let s = c.before.before in subst (λ (x : ℤ). Belongs s.args.knots.now x c.among.result) (to_z-of_z s.ranges.position) c.among.ensures
 
 pub piece_spec : {M : Type 1} → statement M
 piece_spec = tie.close (tie.spec overflow_sub-end among-requires returns)

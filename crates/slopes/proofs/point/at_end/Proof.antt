@@ -38,7 +38,7 @@ second : (c : tie.After-neighbour-next) → Neighbour (start c).args.i c.neighbo
 second c = c.neighbour-next.ensures
 
 there : (c : tie.After-neighbour-next) → let s = (start c).args in (s.i - 1 + 1 < length s.knots.now) × (c.neighbour-next.result + 1 < length s.knots.now)
-there c = let s = start c in end_pieces s.args.unit s.args.knots.now s.args.values.now s.args.i s.pre.1.1.0 s.pre.1.1.1 (second c)
+there c = let s = start c in end_pieces s.args.unit s.args.knots.now s.args.values.now s.args.i s.requires.1.1.0 s.requires.1.1.1 (second c)
 
 step-requires : tie.Need-step-requires
 step-requires c κs = omega (arith, (there c).0, first c)
@@ -70,10 +70,10 @@ end-requires : tie.Need-end-requires
 end-requires c κs =
     let d = c.before.before.before.before in
     let s = start d in (
-      subst UnitSize (sym (to_z-of_z s.ranges.unit)) s.pre.0,
+      subst UnitSize (sym (to_z-of_z s.ranges.unit)) s.requires.0,
       (
-        piece_within (s.args.i - 1) s.pre.1.0 (there d).0 (width c.before.before.before) (rise c.before.before),
-        piece_within d.neighbour-next.result s.pre.1.0 (there d).1 (its_width c.before) (its_rise c),
+        piece_within (s.args.i - 1) s.requires.1.0 (there d).0 (width c.before.before.before) (rise c.before.before),
+        piece_within d.neighbour-next.result s.requires.1.0 (there d).1 (its_width c.before) (its_rise c),
       ),
     )
 
@@ -84,7 +84,7 @@ returns c =
     let s = start d in
     returned w32 c.end.type_inv c.end.ensures
     ∙ same_pieces end_slope (to_z-of_z s.ranges.unit) (width e.before.before.before) (rise e.before.before) (its_width e.before) (its_rise e)
-    ∙ end_slope_lem s.args.unit s.args.knots.now s.args.values.now s.args.i s.pre.1.1.0 s.pre.1.1.1 (second d)
+    ∙ end_slope_lem s.args.unit s.args.knots.now s.args.values.now s.args.i s.requires.1.1.0 s.requires.1.1.1 (second d)
 
 pub at_end_spec : {M : Type 1} → statement M
 at_end_spec =

@@ -80,7 +80,7 @@ inside : (c : tie.Else-is_end) → let s = (start c).args in (0 < s.i) × (s.i +
 inside c =
     let s = start c in
     let e : (s.args.i ≡ 0 → ⊥) = λ e. denied (ends c.before) c.if-is_end.false (at_the_first e) in
-    let f : (s.args.i + 1 ≡ length s.args.knots.now → ⊥) = λ e. denied (ends c.before) c.if-is_end.false (at_the_last e) in (omega arith, omega (arith, s.pre.1.1))
+    let f : (s.args.i + 1 ≡ length s.args.knots.now → ⊥) = λ e. denied (ends c.before) c.if-is_end.false (at_the_last e) in (omega arith, omega (arith, s.requires.1.1))
 
 overflow_sub-left : tie.Need-overflow_sub-left
 overflow_sub-left c = omega (arith, (inside c).0)
@@ -117,8 +117,8 @@ inner-requires c κs =
     let l = inside d in (
       unit_handed s,
       (
-        piece_within (i - 1) s.pre.1.0 (omega (arith, l.0, l.1)) (left_width c.before.before.before) (left_rise c.before.before),
-        piece_within i s.pre.1.0 l.1 (right_width c.before) (right_rise c),
+        piece_within (i - 1) s.requires.1.0 (omega (arith, l.0, l.1)) (left_width c.before.before.before) (left_rise c.before.before),
+        piece_within i s.requires.1.0 l.1 (right_width c.before) (right_rise c),
       ),
     )
 

@@ -1,4 +1,5 @@
 -- `slopes::rule::end` meets its contract: a fall is a rise turned over.
+use mir.Syntax.{w32}
 use mathlib.Core.Path.{◌≡◌, sym, ◌∙◌, ap, ap₂, subst}
 use mathlib.Core.List.{List, [], ◌∷◌}
 use lib.IntN.{ℤ, pos, neg_ℤ}
@@ -87,7 +88,7 @@ rising_end-requires-2 c κs =
 returns : tie.Need-returns
 returns c =
     let s = c.before.before in
-    to_z-of_z (record { sfits = c.rising_end-2.type_inv })
+    to_z-of_z {w = w32} (record { sfits = c.rising_end-2.type_inv })
     ∙ (plainly₅ (given s) (λ (U h₁ z₁ h₂ z₂ : ℤ). End U h₁ z₁ h₂ z₂ c.rising_end-2.result) c.rising_end-2.ensures (search code depth 30 fits 9000) (search arguments depth 30 fits 9000) tt).is
 
 pub end_spec : {M : Type 1} → statement M

@@ -1,4 +1,5 @@
 -- `slopes::rule::inner` meets its contract: each way through the code is one case of the rule.
+use mir.Syntax.{w32}
 use mathlib.Core.Path.{◌≡◌, refl, sym, ◌∙◌, ap, subst}
 use mathlib.Core.List.{List, [], ◌∷◌}
 use lib.IntN.{ℤ, pos, neg_ℤ, ◌*ℤ◌}
@@ -102,7 +103,7 @@ mean-requires-2 c κs =
 returns : tie.Need-returns
 returns c =
     let s = c.before.before.before in
-    to_z-of_z (record { sfits = c.mean-2.type_inv })
+    to_z-of_z {w = w32} (record { sfits = c.mean-2.type_inv })
     ∙ (plainly₅ (given s) (λ (U h₁ z₁ h₂ z₂ : ℤ). Mean U h₁ z₁ h₂ z₂ c.mean-2.result) c.mean-2.ensures (search code depth 30 fits 9000) (search arguments depth 30 fits 9000) tt).is
     ∙ inner_up s.args.unit s.args.h1 s.args.z1 s.args.h2 s.args.z2 (product c.before.before) (up c.before)
 

@@ -41,7 +41,7 @@ accepted : (c : tie.Else-refusal-ne-DONE) → let s = c.args in PointsWithin s.k
 accepted c = accepted_points c.if-refusal-ne-DONE.false c.points-refusal.ensures
 
 as_many : (c : tie.Else-refusal-ne-DONE) → let s = c.args in length s.slopes.now ≡ length s.knots.now
-as_many c = (lengths_asked c.if-refusal-ne-DONE.false c.points-refusal.ensures).slopes-1
+as_many c = (lengths_asked c.if-refusal-ne-DONE.false c.points-refusal.ensures).slopes
 
 abbrev start : tie.Else-refusal-ne-DONE → tie.Start
 start c = c.before.before.before
@@ -72,7 +72,7 @@ renew-requires c κs =
     let p = accepted u.before in
     (sized u, (p, (as_many u.before, (omega arith, omega (arith, p.count.low)))))
 
-begun : (c : tie.After-renew) → c.renew.new.1.1.1.0 ≡ put (built (first c)) 0 1 (start (first c).before).args.slopes.now
+begun : (c : tie.After-renew) → c.renew.new.slopes ≡ put (built (first c)) 0 1 (start (first c).before).args.slopes.now
 begun c = c.renew.ensures
 
 inner-requires : tie.Need-inner-requires
@@ -81,17 +81,17 @@ inner-requires c κs =
     let u = first d in
     (sized u, (accepted u.before, ap length (begun d) ∙ length_put (built u) 0 (start u.before).args.slopes.now 1 ∙ as_many u.before))
 
-between : (c : tie.After-inner) → let u = first (run c) in let s = (start u.before).args in c.inner.new.1.1.1.0 ≡ put (built u) 1 (length s.knots.now - 2) (put (built u) 0 1 s.slopes-1.now)
+between : (c : tie.After-inner) → let u = first (run c) in let s = (start u.before).args in c.inner.new.slopes ≡ put (built u) 1 (length s.knots.now - 2) (put (built u) 0 1 s.slopes.now)
 between c =
     let u = first (run c) in
     c.inner.ensures ∙ ap (put (built u) 1 (length (start u.before).args.knots.now - 2)) (begun (run c))
 
 -- the list is as long as it was
-full : (c : tie.After-inner) → length c.inner.new.1.1.1.0 ≡ length (start (first (run c)).before).args.slopes.now
+full : (c : tie.After-inner) → length c.inner.new.slopes ≡ length (start (first (run c)).before).args.slopes.now
 full c =
     let u = first (run c) in
     let s = (start u.before).args in
-    ap length (between c) ∙ length_put (built u) 1 (put (built u) 0 1 s.slopes-1.now) (length s.knots.now - 2) ∙ length_put (built u) 0 s.slopes-1.now 1
+    ap length (between c) ∙ length_put (built u) 1 (put (built u) 0 1 s.slopes.now) (length s.knots.now - 2) ∙ length_put (built u) 0 s.slopes.now 1
 
 overflow_sub-n : tie.Need-overflow_sub-n
 overflow_sub-n c = omega (arith, (accepted (first (run c.before.before)).before).count.low)
@@ -104,20 +104,20 @@ renew-requires-2 c κs =
 
 -- the last slope is in its place
 ended : (c : tie.After-renew-2) → let u = first (run c.before.before.before) in let s = (start u.before).args in let n = length s.knots.now in
-    c.renew-2.new.1.1.1.0 ≡ put (built u) (n - 1) (n - (n - 1)) (put (built u) 1 (n - 2) (put (built u) 0 1 s.slopes-1.now))
+    c.renew-2.new.slopes ≡ put (built u) (n - 1) (n - (n - 1)) (put (built u) 1 (n - 2) (put (built u) 0 1 s.slopes.now))
 ended c =
     let d = c.before.before.before in
     let u = first (run d) in
     let n = length (start u.before).args.knots.now in
     c.renew-2.ensures ∙ ap (put (built u) (n - 1) (n - (n - 1))) (between d)
 
-all_built : (c : tie.After-renew-2) → let s = (start (first (run c.before.before.before)).before).args in c.renew-2.new.1.1.1.0 ≡ built_slopes (unit s.s) s.knots.now s.values.now
+all_built : (c : tie.After-renew-2) → let s = (start (first (run c.before.before.before)).before).args in c.renew-2.new.slopes ≡ built_slopes (unit s.s) s.knots.now s.values.now
 all_built c =
     let u = first (run c.before.before.before) in
     let d = u.before in
     let s = (start d).args in
     ended c
-    ∙ put_ends (built u) s.slopes-1.now (length s.knots.now) (accepted d).count.low (as_many d)
+    ∙ put_ends (built u) s.slopes.now (length s.knots.now) (accepted d).count.low (as_many d)
     ∙ ap (λ (U : ℤ). built_slopes U s.knots.now s.values.now) (handed u)
 
 shape_of-slopes : tie.Need-shape_of-slopes
@@ -132,7 +132,7 @@ returns c =
     let s = (start d).args in
     record {
       refusal = d.points-refusal.ensures;
-      slopes = all_built c.before ∙ replaced s.slopes-1.now (built_slopes (unit s.s) s.knots.now s.values.now) d.if-refusal-ne-DONE.left;
+      slopes = all_built c.before ∙ replaced s.slopes.now (built_slopes (unit s.s) s.knots.now s.values.now) d.if-refusal-ne-DONE.false;
     }
 
 pub build_spec : {M : Type 1} → statement M

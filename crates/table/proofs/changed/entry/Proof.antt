@@ -23,7 +23,7 @@ returns-then-i-at : tie.Need-returns-then-i-at
 returns-then-i-at c =
     let s = c.before in
     let a = s.args in
-    let here = subst (λ (k : ℕ). a.new ≡ entry (set a.list.now k a.new) a.i) c.if-i-at.taken (sym (get_or-set_same a.list.now a.i a.new (pos 0) s.pre)) in
+    let here = subst (λ (k : ℕ). a.new ≡ entry (set a.list.now k a.new) a.i) c.if-i-at.true (sym (get_or-set_same a.list.now a.i a.new (pos 0) s.requires)) in
     record { is = plain_is {Γ = given s} (search code depth 30 fits 9000) tt ∙ here; within = sized (given s) (search code depth 30 fits 9000) tt }
 
 entry-requires : tie.Need-entry-requires
@@ -32,8 +32,8 @@ entry-requires c κs = search rules
 returns : tie.Need-returns
 returns c =
     let a = c.args in
-    let other = get_or-set_other a.list.now a.at a.i a.new (pos 0) c.if-i-at.left in
-    as_read c.entry.ok (subst (λ (x : ℤ). Read x c.entry.result) (sym other) c.entry.ensures)
+    let other = get_or-set_other a.list.now a.at a.i a.new (pos 0) c.if-i-at.false in
+    as_read c.entry.type_inv (subst (λ (x : ℤ). Read x c.entry.result) (sym other) c.entry.ensures)
 
 pub entry_spec : {M : Type 1} → statement M
 entry_spec = tie.close (tie.spec overflow_cast-result returns-then-i-at entry-requires returns)

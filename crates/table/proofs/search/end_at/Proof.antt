@@ -53,13 +53,13 @@ module _ (c : tie.After-slope-slope) where
 returns-in-Now : tie.Need-returns-in-Now
 returns-in-Now c =
     let e = c.before.before in
-    is_end e.before.before Now e.in-Now.is (as_read c.entry.type_inv c.entry.ensures) (as_read c.entry-in-Now.type_inv c.entry-in-Now.ensures)
+    is_end e.before Now e.in-Now.is (as_read c.entry.type_inv c.entry.ensures) (as_read c.entry-in-Now.type_inv c.entry-in-Now.ensures)
 
 returns-in-After : tie.Need-returns-in-After
 returns-in-After c =
     let k = c.before.before in
-    let e = k.before.before.before in
-    let p = e.before.before in
+    let e = k.before.before in
+    let p = e.before in
     let a = p.args in
     let d = e.in-After.c in
     is_end p (After d) e.in-After.is

@@ -5,7 +5,6 @@ use native.Mathlib.Omega.{arith}
 use lib.IntN.{ℤ, ◌-ℤ◌}
 use mir.Syntax.{w32}
 use borrow.Author.Rules.{rules}
-use borrow.Author.Tests.{not-true, not-false}
 use Rattle.integers.specs.Promise.{Decided}
 use Rattle.integers.specs.Decided.{told, denied, asked}
 use Rattle.integers.specs.Sizes.{Known, known, held, fits, plain_is, code}
@@ -44,10 +43,10 @@ width : (c : tie.After-width_within) → Decided (WidthWithin (h c.before.before
 width c = asked WidthWithin (plain_is {Γ = given c.before.before.before.before.before} (search code depth 30 fits 9000) tt) c.width_within.ensures
 
 wide : (c : tie.Else-not-width_within) → WidthWithin (h c.before.before.before.before.before.before)
-wide c = told (width c.before) (not-false _ c.if-not-width_within.false)
+wide c = told (width c.before) c.if-not-width_within.false
 
 returns-then-not-width_within : tie.Need-returns-then-not-width_within
-returns-then-not-width_within c = in_width (denied (width c.before) (not-true _ c.if-not-width_within.true))
+returns-then-not-width_within c = in_width (denied (width c.before) c.if-not-width_within.true)
 
 returns-then-last-lt-RISE : tie.Need-returns-then-last-lt-RISE
 returns-then-last-lt-RISE c =
@@ -73,12 +72,12 @@ rise : (c : tie.After-rise_within) → Decided (RiseWithin (z (start c.before.be
 rise c = asked RiseWithin (plain_is {Γ = given (start c.before.before.before.before.before)} (search code depth 30 fits 9000) tt) c.rise_within.ensures
 
 risen : (c : tie.Else-not-rise_within) → RiseWithin (z (start c.before.before.before.before.before.before))
-risen c = told (rise c.before) (not-false _ c.if-not-rise_within.false)
+risen c = told (rise c.before) c.if-not-rise_within.false
 
 returns-then-not-rise_within : tie.Need-returns-then-not-rise_within
 returns-then-not-rise_within c =
     let e = c.before.before.before.before.before.before in
-    in_rise (omega (arith, e.if-last-lt-RISE.false)) (wide e.before) (denied (rise c.before) (not-true _ c.if-not-rise_within.true))
+    in_rise (omega (arith, e.if-last-lt-RISE.false)) (wide e.before) (denied (rise c.before) c.if-not-rise_within.true)
 
 returns-then-last-lt-BEND : tie.Need-returns-then-last-lt-BEND
 returns-then-last-lt-BEND c =
@@ -95,8 +94,8 @@ is_monotone-requires : tie.Need-is_monotone-requires
 is_monotone-requires c κs =
     let e = c.before.before in
     let s = start (before_z e) in (
-      as_coded₁ (given s) UnitSize (search arguments depth 30 fits 9000) tt s.pre.0,
-      (told (before_z e).width_within.ensures (not-false _ (before_z e).if-not-width_within.false), told e.rise_within.ensures (not-false _ e.if-not-rise_within.false)),
+      as_coded₁ (given s) UnitSize (search arguments depth 30 fits 9000) tt s.requires.0,
+      (told (before_z e).width_within.ensures (before_z e).if-not-width_within.false, told e.rise_within.ensures e.if-not-rise_within.false),
     )
 
 monotone : (c : tie.After-is_monotone) → let s = start (before_z c.before.before.before) in Decided (Monotone s.args.unit (h s) (z s) s.args.left.slope s.args.right.slope) c.is_monotone.result
@@ -109,12 +108,12 @@ monotone c =
 returns-then-not-is_monotone : tie.Need-returns-then-not-is_monotone
 returns-then-not-is_monotone c =
     let e = c.before.before.before.before in
-    in_cubic (omega (arith, e.if-last-lt-BEND.false)) (wide (before_z e).before) (risen e.before) (denied (monotone c.before) (not-true _ c.if-not-is_monotone.true))
+    in_cubic (omega (arith, e.if-last-lt-BEND.false)) (wide (before_z e).before) (risen e.before) (denied (monotone c.before) c.if-not-is_monotone.true)
 
 returns : tie.Need-returns
 returns c =
     let e = c.before.before.before.before in
-    none (wide (before_z e).before) (λ _. risen e.before) (λ _. told (monotone c.before) (not-false _ c.if-not-is_monotone.false))
+    none (wide (before_z e).before) (λ _. risen e.before) (λ _. told (monotone c.before) c.if-not-is_monotone.false)
 
 pub fault_spec : {M : Type 1} → statement M
 fault_spec =

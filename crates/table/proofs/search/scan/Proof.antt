@@ -78,7 +78,7 @@ found c =
     let p = c.before.before in
     let u = before_loop c.before in
     let s = u.before in
-    fault_between s.args.points (given s) s.pre.1.0 (omega (arith, p.if-knots-i-lt2.false)) (returned w64 u.unit-unit.ok u.unit-unit.ensures.0) p.loop-i.invariant.2 c.end_at-right.ensures c.fault-number.ensures
+    fault_between s.args.points (given s) s.requires.1.0 (omega (arith, p.if-knots-i-lt2.false)) (returned w64 u.unit-unit.type_inv u.unit-unit.ensures.0) p.loop-i.invariant.2 c.end_at-right.ensures c.fault-number.ensures
 
 overflow_add-i-in-loop-i : tie.Need-overflow_add-i-in-loop-i invariant-loop-i decreases-loop-i
 overflow_add-i-in-loop-i c = let s = (before_loop c.before.before).before in search rules

@@ -1,6 +1,7 @@
 -- `table::search::slope` meets its contract: a slope is read where a bend is asked for.
 use native.Mathlib.Omega.{arith}
 use Prim.Native.Nat.{◌≤◌}
+use mir.Syntax.{w32}
 use mir.Facts.{to_z-of_z}
 use borrow.Author.Rules.{rules}
 use Rattle.table.proofs.search.slope.Statement.{statement}
@@ -16,7 +17,7 @@ bounds-slopes-i : tie.Need-bounds-slopes-i
 bounds-slopes-i c = search rules
 
 returns : tie.Need-returns
-returns c = record { is = λ _. to_z-of_z (record { sfits = c.result-1.given }) }
+returns c = record { is = λ _. to_z-of_z {w = w32} (record { sfits = c.result-1.given }) }
 
 pub slope_spec : {M : Type 1} → statement M
 slope_spec = tie.close (tie.spec returns-then-last-lt-BEND offset_bounds-slopes-i bounds-slopes-i returns)

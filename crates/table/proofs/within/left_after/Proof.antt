@@ -1,7 +1,6 @@
 -- `table::within::left_after` meets its contract: the last piece by itself, and the others as they are.
 use native.Mathlib.Omega.{arith}
 use borrow.Author.Rules.{rules}
-use borrow.Author.Tests.{not-true, not-false}
 use Rattle.integers.specs.Promise.{holds, fails}
 use Rattle.integers.specs.Decided.{told, denied}
 use Rattle.table.specs.Pieces.{no_pieces, left_of_it}
@@ -20,7 +19,7 @@ one_after-requires c κs = (c.requires.0, omega (arith, c.if-k-eq0.false, c.requ
 returns-then-not-one_after : tie.Need-returns-then-not-one_after
 returns-then-not-one_after c =
     let o = c.before in
-    fails (λ p. denied o.one_after.ensures (not-true _ c.if-not-one_after.true) (p.each _ (omega arith) (omega (arith, o.if-k-eq0.false))))
+    fails (λ p. denied o.one_after.ensures c.if-not-one_after.true (p.each _ (omega arith) (omega (arith, o.if-k-eq0.false))))
 
 overflow_sub-k-2 : tie.Need-overflow_sub-k-2
 overflow_sub-k-2 c = omega (arith, c.if-k-eq0.false)
@@ -32,7 +31,7 @@ returns : tie.Need-returns
 returns c =
     let e = c.before in
     let o = e.before in
-    left_of_it _ _ _ (omega (arith, o.if-k-eq0.false)) (told o.one_after.ensures (not-false _ e.if-not-one_after.false)) c.all.ensures
+    left_of_it _ _ _ (omega (arith, o.if-k-eq0.false)) (told o.one_after.ensures e.if-not-one_after.false) c.all.ensures
 
 pub left_after_spec : {M : Type 1} → statement M
 left_after_spec = tie.close (tie.spec returns-then-k-eq0 overflow_sub-k one_after-requires returns-then-not-one_after overflow_sub-k-2 all-requires returns)

@@ -1,7 +1,6 @@
 -- `table::within::one_after` meets its contract: the tests are of piece i's width and of its rise.
 use lib.ListN.{set}
 use borrow.Author.Rules.{rules}
-use borrow.Author.Tests.{not-true, not-false}
 use Rattle.integers.specs.Promise.{Decided, fails}
 use Rattle.integers.specs.Decided.{told, denied, asked}
 use Rattle.rules.specs.Limits.{WidthWithin, RiseWithin}
@@ -23,7 +22,7 @@ width c =
     asked WidthWithin (stepped s.knots.now s.change.point s.i (record { sfits = w.struct_told-1.given.1.0.1 }) w.step.type_inv w.step.ensures) c.width_within.ensures
 
 returns-then-not-width_within : tie.Need-returns-then-not-width_within
-returns-then-not-width_within c = fails (λ p. denied (width c.before) (not-true _ c.if-not-width_within.true) p.width)
+returns-then-not-width_within c = fails (λ p. denied (width c.before) c.if-not-width_within.true p.width)
 
 step-requires-2 : tie.Need-step-requires-2
 step-requires-2 c κs = search rules
@@ -40,7 +39,7 @@ rise c =
 returns : tie.Need-returns
 returns c =
     let e = c.before.before.before in
-    alike (λ r. record { width = told (width e.before) (not-false _ e.if-not-width_within.false); rise = r }) (λ p. p.rise) (rise c)
+    alike (λ r. record { width = told (width e.before) e.if-not-width_within.false; rise = r }) (λ p. p.rise) (rise c)
 
 pub one_after_spec : {M : Type 1} → statement M
 one_after_spec = tie.close (tie.spec step-requires width_within-requires returns-then-not-width_within step-requires-2 rise_within-requires returns)
