@@ -37,130 +37,137 @@ const UNLIKE_SLOPES: [i32; 3] = [10, 0, 0];
 // Fewer slopes than points.
 const FEWER: [i32; 2] = [10, 0];
 
-fn main() {
-    quotients();
-    nearests();
-    texts(b"abc", b"ab c");
-    asked(S, &KNOTS, &VALUES, &SLOPES);
-    at(S, &KNOTS, &BEND, &SLOPES, 3);
-    units(&UNLIKE_KNOTS, &UNLIKE_VALUES, &UNLIKE_SLOPES, &FEWER);
-    pieces();
+fn main(rt: HostRuntime) {
+    quotients(&rt);
+    nearests(&rt);
+    texts(&rt, b"abc", b"ab c");
+    asked(&rt, S, &KNOTS, &VALUES, &SLOPES);
+    at(&rt, S, &KNOTS, &BEND, &SLOPES, 3);
+    units(&rt, &UNLIKE_KNOTS, &UNLIKE_VALUES, &UNLIKE_SLOPES, &FEWER);
+    pieces(&rt);
 }
 
 // ---- integers
 
-fn quotients() {
-    quotient(7, 1);
-    quotient(7, 0);
-    quotient(-7, 0);
-    quotient(7, -2);
-    quotient(-1, 4);
-    quotient(-9, 4);
-    quotient(-9223372036854775808, 1);
-    quotient(-9223372036854775808, -1);
+fn quotients(rt: &(impl Print + Eprint)) {
+    quotient(rt, 7, 1);
+    quotient(rt, 7, 0);
+    quotient(rt, -7, 0);
+    quotient(rt, 7, -2);
+    quotient(rt, -1, 4);
+    quotient(rt, -9, 4);
+    quotient(rt, -9223372036854775808, 1);
+    quotient(rt, -9223372036854775808, -1);
 }
 
-fn quotient(n: i64, d: i64) {
-    wholes(b"floor_div # # #\n", n, d, integers::floor_div(n, d));
+fn quotient(rt: &(impl Print + Eprint), n: i64, d: i64) {
+    wholes(rt, b"floor_div # # #\n", n, d, integers::floor_div(n, d));
 }
 
 // Numbers around 0, 2^62 and the ends of 64 bits.
-fn nearests() {
-    by_each(-3);
-    by_each(-2);
-    by_each(-1);
-    by_each(0);
-    by_each(1);
-    by_each(2);
-    by_each(3);
-    by_each(7);
-    by_each(-4611686018427387906);
-    by_each(-4611686018427387905);
-    by_each(-4611686018427387904);
-    by_each(-4611686018427387903);
-    by_each(4611686018427387902);
-    by_each(4611686018427387903);
-    by_each(4611686018427387904);
-    by_each(4611686018427387905);
-    by_each(-9223372036854775808);
-    by_each(-9223372036854775807);
-    by_each(9223372036854775806);
-    by_each(9223372036854775807);
+fn nearests(rt: &(impl Print + Eprint)) {
+    by_each(rt, -3);
+    by_each(rt, -2);
+    by_each(rt, -1);
+    by_each(rt, 0);
+    by_each(rt, 1);
+    by_each(rt, 2);
+    by_each(rt, 3);
+    by_each(rt, 7);
+    by_each(rt, -4611686018427387906);
+    by_each(rt, -4611686018427387905);
+    by_each(rt, -4611686018427387904);
+    by_each(rt, -4611686018427387903);
+    by_each(rt, 4611686018427387902);
+    by_each(rt, 4611686018427387903);
+    by_each(rt, 4611686018427387904);
+    by_each(rt, 4611686018427387905);
+    by_each(rt, -9223372036854775808);
+    by_each(rt, -9223372036854775807);
+    by_each(rt, 9223372036854775806);
+    by_each(rt, 9223372036854775807);
 }
 
 // By odd and even numbers, and by some that are not positive.
-fn by_each(n: i64) {
-    nearest(n, 1);
-    nearest(n, 2);
-    nearest(n, 3);
-    nearest(n, 4);
-    nearest(n, 5);
-    nearest(n, 9223372036854775806);
-    nearest(n, 9223372036854775807);
-    nearest(n, 0);
-    nearest(n, -1);
-    nearest(n, -2);
-    nearest(n, -9223372036854775808);
+fn by_each(rt: &(impl Print + Eprint), n: i64) {
+    nearest(rt, n, 1);
+    nearest(rt, n, 2);
+    nearest(rt, n, 3);
+    nearest(rt, n, 4);
+    nearest(rt, n, 5);
+    nearest(rt, n, 9223372036854775806);
+    nearest(rt, n, 9223372036854775807);
+    nearest(rt, n, 0);
+    nearest(rt, n, -1);
+    nearest(rt, n, -2);
+    nearest(rt, n, -9223372036854775808);
 }
 
-fn nearest(n: i64, d: i64) {
-    wholes(b"nearest_div # # #\n", n, d, integers::nearest_div(n, d));
+fn nearest(rt: &(impl Print + Eprint), n: i64, d: i64) {
+    wholes(
+        rt,
+        b"nearest_div # # #\n",
+        n,
+        d,
+        integers::nearest_div(n, d),
+    );
 }
 
 // ---- words and decimals
 
-fn texts(word: &[u8], line: &[u8]) {
-    finds(word);
-    next_words();
-    counts(line);
-    parts(word);
-    reads();
-    buffers(word);
+fn texts(rt: &(impl Print + Eprint), word: &[u8], line: &[u8]) {
+    finds(rt, word);
+    next_words(rt);
+    counts(rt, line);
+    parts(rt, word);
+    reads(rt);
+    buffers(rt, word);
 }
 
-fn finds(bytes: &[u8]) {
-    found(bytes, 0, 99);
-    found(bytes, 0, 120);
-    found(bytes, 5, 97);
+fn finds(rt: &(impl Print + Eprint), bytes: &[u8]) {
+    found(rt, bytes, 0, 99);
+    found(rt, bytes, 0, 120);
+    found(rt, bytes, 5, 97);
 }
 
-fn next_words() {
-    word(b"ab", 0);
-    word(b" ab c", 2);
-    word(b"ab ", 2);
+fn next_words(rt: &(impl Print + Eprint)) {
+    word(rt, b"ab", 0);
+    word(rt, b" ab c", 2);
+    word(rt, b"ab ", 2);
 }
 
-fn counts(line: &[u8]) {
-    counted(line, 0);
-    counted(line, 1);
-    counted(line, 9);
+fn counts(rt: &(impl Print + Eprint), line: &[u8]) {
+    counted(rt, line, 0);
+    counted(rt, line, 1);
+    counted(rt, line, 9);
 }
 
-fn parts(line: &[u8]) {
-    part(line, 1, 2);
-    part(line, 1, 4);
-    part(line, 1, 9);
-    part(line, 2, 1);
-    part(line, 5, 7);
+fn parts(rt: &(impl Print + Eprint), line: &[u8]) {
+    part(rt, line, 1, 2);
+    part(rt, line, 1, 4);
+    part(rt, line, 1, 9);
+    part(rt, line, 2, 1);
+    part(rt, line, 5, 7);
 }
 
-fn reads() {
-    read(b"");
-    read(b"-");
+fn reads(rt: &(impl Print + Eprint)) {
+    read(rt, b"");
+    read(rt, b"-");
 }
 
 // A buffer of four bytes, of which so many are held, and more behind them.
-fn buffers(more: &[u8]) {
-    appended(0, more);
-    appended(1, more);
-    appended(2, more);
-    appended(3, more);
-    appended(4, more);
-    appended(6, more);
+fn buffers(rt: &(impl Print + Eprint), more: &[u8]) {
+    appended(rt, 0, more);
+    appended(rt, 1, more);
+    appended(rt, 2, more);
+    appended(rt, 3, more);
+    appended(rt, 4, more);
+    appended(rt, 6, more);
 }
 
-fn found(bytes: &[u8], from: usize, byte: u8) {
+fn found(rt: &(impl Print + Eprint), bytes: &[u8], from: usize, byte: u8) {
     with_text(
+        rt,
         b"find '$' # # #\n",
         bytes,
         from,
@@ -169,96 +176,137 @@ fn found(bytes: &[u8], from: usize, byte: u8) {
     );
 }
 
-fn word(line: &[u8], from: usize) {
+fn word(rt: &(impl Print + Eprint), line: &[u8], from: usize) {
     match words::next_word(line, from) {
-        Word::At { start, end } => with_text(b"next_word '$' # # #\n", line, from, start, end),
-        Word::Nothing => with_text(b"next_word '$' # nothing\n", line, from, 0, 0),
+        Word::At { start, end } => with_text(rt, b"next_word '$' # # #\n", line, from, start, end),
+        Word::Nothing => with_text(rt, b"next_word '$' # nothing\n", line, from, 0, 0),
     }
 }
 
-fn counted(line: &[u8], from: usize) {
-    with_text(b"count '$' # #\n", line, from, words::count(line, from), 0);
+fn counted(rt: &(impl Print + Eprint), line: &[u8], from: usize) {
+    with_text(
+        rt,
+        b"count '$' # #\n",
+        line,
+        from,
+        words::count(line, from),
+        0,
+    );
 }
 
-fn part(line: &[u8], start: usize, end: usize) {
-    with_text(b"part '$' # # ", line, start, end, 0);
-    with_text(b"$\n", words::part(line, start, end), 0, 0, 0);
+fn part(rt: &(impl Print + Eprint), line: &[u8], start: usize, end: usize) {
+    with_text(rt, b"part '$' # # ", line, start, end, 0);
+    with_text(rt, b"$\n", words::part(line, start, end), 0, 0, 0);
 }
 
-fn read(digits: &[u8]) {
-    with_text(b"whole '$' ", digits, 0, 0, 0);
-    said(decimals::whole(digits));
+fn read(rt: &(impl Print + Eprint), digits: &[u8]) {
+    with_text(rt, b"whole '$' ", digits, 0, 0, 0);
+    said(rt, decimals::whole(digits));
 }
 
-fn said(number: Number) {
+fn said(rt: &(impl Print + Eprint), number: Number) {
     match number {
-        Number::Is(n) => wholes(b"#\n", n, 0, 0),
-        Number::NotDecimal => wholes(b"no number\n", 0, 0, 0),
-        Number::TooLarge => wholes(b"too large\n", 0, 0, 0),
+        Number::Is(n) => wholes(rt, b"#\n", n, 0, 0),
+        Number::NotDecimal => wholes(rt, b"no number\n", 0, 0, 0),
+        Number::TooLarge => wholes(rt, b"too large\n", 0, 0, 0),
     }
 }
 
-fn appended(held: usize, more: &[u8]) {
+fn appended(rt: &(impl Print + Eprint), held: usize, more: &[u8]) {
     let mut four = [46u8; 4];
     let n = words::append(&mut four, held, more);
-    with_text(b"append '$' # #\n", &four, held, n, 0);
+    with_text(rt, b"append '$' # #\n", &four, held, n, 0);
 }
 
 // ---- tables, each line with the slope unit's number first, at positions in them and outside
 
 // In two units that are good and in two that are refused, which is asked before the lengths.
-fn units(knots: &[i32], values: &[i32], slopes: &[i32], fewer: &[i32]) {
-    in_unit(0, knots, values, slopes, fewer);
-    in_unit(4, knots, values, slopes, fewer);
-    in_unit(9, knots, values, slopes, fewer);
-    in_unit(4294967295, knots, values, slopes, fewer);
+fn units(rt: &(impl Print + Eprint), knots: &[i32], values: &[i32], slopes: &[i32], fewer: &[i32]) {
+    in_unit(rt, 0, knots, values, slopes, fewer);
+    in_unit(rt, 4, knots, values, slopes, fewer);
+    in_unit(rt, 9, knots, values, slopes, fewer);
+    in_unit(rt, 4294967295, knots, values, slopes, fewer);
 }
 
-fn in_unit(s: u32, knots: &[i32], values: &[i32], slopes: &[i32], fewer: &[i32]) {
-    asked(s, knots, values, slopes);
-    asked(s, knots, values, fewer);
+fn in_unit(
+    rt: &(impl Print + Eprint),
+    s: u32,
+    knots: &[i32],
+    values: &[i32],
+    slopes: &[i32],
+    fewer: &[i32],
+) {
+    asked(rt, s, knots, values, slopes);
+    asked(rt, s, knots, values, fewer);
 }
 
-fn asked(s: u32, knots: &[i32], values: &[i32], slopes: &[i32]) {
+fn asked(rt: &(impl Print + Eprint), s: u32, knots: &[i32], values: &[i32], slopes: &[i32]) {
     given(
+        rt,
         b"points # # #\n",
         s,
         table::points(s, knots, values, slopes),
     );
-    given(b"check # # #\n", s, table::check(s, knots, values, slopes));
-    at_each(s, knots, values, slopes, &POSITIONS);
+    given(
+        rt,
+        b"check # # #\n",
+        s,
+        table::check(s, knots, values, slopes),
+    );
+    at_each(rt, s, knots, values, slopes, &POSITIONS);
 }
 
-fn given(template: &[u8], s: u32, refusal: Refusal) {
-    naturals(template, s as usize, refusal.number as usize, refusal.place);
+fn given(rt: &(impl Print + Eprint), template: &[u8], s: u32, refusal: Refusal) {
+    naturals(
+        rt,
+        template,
+        s as usize,
+        refusal.number as usize,
+        refusal.place,
+    );
 }
 
 // What is answered at each of these positions.
-fn at_each(s: u32, knots: &[i32], values: &[i32], slopes: &[i32], positions: &[i32]) {
+fn at_each(
+    rt: &(impl Print + Eprint),
+    s: u32,
+    knots: &[i32],
+    values: &[i32],
+    slopes: &[i32],
+    positions: &[i32],
+) {
     let mut i = 0;
     while i < positions.len() {
-        at(s, knots, values, slopes, positions[i]);
+        at(rt, s, knots, values, slopes, positions[i]);
         i += 1;
     }
 }
 
 // The refusal's number and place stand behind the position, and then what is answered.
-fn at(s: u32, knots: &[i32], values: &[i32], slopes: &[i32], position: i32) {
-    placed(b"locate # ", s, position);
-    located(position::locate(s, knots, values, slopes, position));
-    placed(b"evaluate # ", s, position);
-    valued(curve::evaluate(s, knots, values, slopes, position));
-    placed(b"float_answer # ", s, position);
-    driven(drive::float_answer(s, knots, values, slopes, position));
+fn at(
+    rt: &(impl Print + Eprint),
+    s: u32,
+    knots: &[i32],
+    values: &[i32],
+    slopes: &[i32],
+    position: i32,
+) {
+    placed(rt, b"locate # ", s, position);
+    located(rt, position::locate(s, knots, values, slopes, position));
+    placed(rt, b"evaluate # ", s, position);
+    valued(rt, curve::evaluate(s, knots, values, slopes, position));
+    placed(rt, b"float_answer # ", s, position);
+    driven(rt, drive::float_answer(s, knots, values, slopes, position));
 }
 
-fn placed(template: &[u8], s: u32, position: i32) {
-    naturals(template, s as usize, 0, 0);
-    whole32(b"# ", position);
+fn placed(rt: &(impl Print + Eprint), template: &[u8], s: u32, position: i32) {
+    naturals(rt, template, s as usize, 0, 0);
+    whole32(rt, b"# ", position);
 }
 
-fn located(place: Place) {
+fn located(rt: &(impl Print + Eprint), place: Place) {
     naturals(
+        rt,
         b"# # #\n",
         place.refusal.number as usize,
         place.refusal.place,
@@ -266,20 +314,22 @@ fn located(place: Place) {
     );
 }
 
-fn valued(value: Value) {
+fn valued(rt: &(impl Print + Eprint), value: Value) {
     naturals(
+        rt,
         b"# # ",
         value.refusal.number as usize,
         value.refusal.place,
         0,
     );
-    whole32(b"#\n", value.value);
+    whole32(rt, b"#\n", value.value);
 }
 
-fn driven(driven: Driven) {
+fn driven(rt: &(impl Print + Eprint), driven: Driven) {
     let answer = driven.answer;
     let told = answers::entry(b"move\ndwell\ndwell at 0\ndwell at -0", kind(answer));
     with_text(
+        rt,
         b"# # $\n",
         told,
         driven.refusal.number as usize,
@@ -308,19 +358,19 @@ fn level_kind(level: f64) -> usize {
 
 // ---- every position of level tables of several lengths. Their widths are 1, 2 and 3 in turn, so that each is a knot, or beside one, or outside
 
-fn pieces() {
+fn pieces(rt: &(impl Print + Eprint)) {
     let mut knots = [0i32; 1024];
     spread(&mut knots);
     let level = [0i32; 1024];
-    pieces_of(&knots, &level, 2);
-    pieces_of(&knots, &level, 3);
-    pieces_of(&knots, &level, 4);
-    pieces_of(&knots, &level, 5);
-    pieces_of(&knots, &level, 31);
-    pieces_of(&knots, &level, 32);
-    pieces_of(&knots, &level, 33);
-    pieces_of(&knots, &level, 1023);
-    pieces_of(&knots, &level, 1024);
+    pieces_of(rt, &knots, &level, 2);
+    pieces_of(rt, &knots, &level, 3);
+    pieces_of(rt, &knots, &level, 4);
+    pieces_of(rt, &knots, &level, 5);
+    pieces_of(rt, &knots, &level, 31);
+    pieces_of(rt, &knots, &level, 32);
+    pieces_of(rt, &knots, &level, 33);
+    pieces_of(rt, &knots, &level, 1023);
+    pieces_of(rt, &knots, &level, 1024);
 }
 
 fn spread(knots: &mut [i32; 1024]) {
@@ -340,10 +390,10 @@ fn knot(i: usize) -> i32
 }
 
 // What is answered in the table of the first so many points.
-fn pieces_of(knots: &[i32; 1024], level: &[i32; 1024], points: usize)
+fn pieces_of(rt: &(impl Print + Eprint), knots: &[i32; 1024], level: &[i32; 1024], points: usize)
     requires { points ≤ 1024 }
 {
-    piece_at_each(front(knots, points), front(level, points), points);
+    piece_at_each(rt, front(knots, points), front(level, points), points);
 }
 
 // The first n numbers of a list, which has as many.
@@ -353,31 +403,38 @@ fn front(list: &[i32], n: usize) -> &[i32]
     &list[..n]
 }
 
-fn piece_at_each(knots: &[i32], level: &[i32], points: usize)
+fn piece_at_each(rt: &(impl Print + Eprint), knots: &[i32], level: &[i32], points: usize)
     requires { points ≤ 1024 }
 {
     let mut position = 0;
     while position <= 2 * points {
-        piece_at(knots, level, points, position as i32);
+        piece_at(rt, knots, level, points, position as i32);
         position += 1;
     }
 }
 
-fn piece_at(knots: &[i32], level: &[i32], points: usize, position: i32) {
-    whole32(b"locate # ", position);
-    naturals(b"of # points ", points, 0, 0);
-    located(position::locate(S, knots, level, level, position));
+fn piece_at(
+    rt: &(impl Print + Eprint),
+    knots: &[i32],
+    level: &[i32],
+    points: usize,
+    position: i32,
+) {
+    whole32(rt, b"locate # ", position);
+    naturals(rt, b"of # points ", points, 0, 0);
+    located(rt, position::locate(S, knots, level, level, position));
 }
 
 // ---- what is written. A template that has no place for a text is handed on as the text too.
 
-fn whole32(template: &[u8], n: i32) {
+fn whole32(rt: &(impl Print + Eprint), template: &[u8], n: i32) {
     let n = answers::whole32(n);
-    write(template, template, n, n, n);
+    write(rt, template, template, n, n, n);
 }
 
-fn wholes(template: &[u8], first: i64, second: i64, third: i64) {
+fn wholes(rt: &(impl Print + Eprint), template: &[u8], first: i64, second: i64, third: i64) {
     write(
+        rt,
         template,
         template,
         answers::whole(first),
@@ -386,12 +443,26 @@ fn wholes(template: &[u8], first: i64, second: i64, third: i64) {
     );
 }
 
-fn naturals(template: &[u8], first: usize, second: usize, third: usize) {
-    with_text(template, template, first, second, third);
+fn naturals(
+    rt: &(impl Print + Eprint),
+    template: &[u8],
+    first: usize,
+    second: usize,
+    third: usize,
+) {
+    with_text(rt, template, template, first, second, third);
 }
 
-fn with_text(template: &[u8], text: &[u8], first: usize, second: usize, third: usize) {
+fn with_text(
+    rt: &(impl Print + Eprint),
+    template: &[u8],
+    text: &[u8],
+    first: usize,
+    second: usize,
+    third: usize,
+) {
     write(
+        rt,
         template,
         text,
         answers::natural(first as u64),
@@ -400,14 +471,21 @@ fn with_text(template: &[u8], text: &[u8], first: usize, second: usize, third: u
     );
 }
 
-fn write(template: &[u8], text: &[u8], first: Signed, second: Signed, third: Signed) {
+fn write(
+    rt: &(impl Print + Eprint),
+    template: &[u8],
+    text: &[u8],
+    first: Signed,
+    second: Signed,
+    third: Signed,
+) {
     let mut space = [0u8; 256];
     let n = answers::fill(&mut space, 0, template, text, first, second, third);
-    written(words::part(&space, 0, n));
+    written(rt, words::part(&space, 0, n));
 }
 
-fn written(bytes: &[u8]) {
-    if !io::write_all(libc::STDOUT_FILENO, bytes) {
-        os::fail(b"calls: standard output");
+fn written(rt: &(impl Print + Eprint), bytes: &[u8]) {
+    if let Err(error) = rt.write_all(bytes) {
+        let _ = eprintln!(rt; "calls: standard output: {error}");
     }
 }

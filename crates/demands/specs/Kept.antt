@@ -4,7 +4,7 @@ use Rattle.std.specs.Prelude.{false, ◌≡◌, refl, List, ℕ, zero, suc, ℤ,
 use Rattle.std.proofs.Common.{sym, subst, arith, lit≤}
 use Rattle.std.specs.Float.{fin, binary64}
 use Rattle.std.specs.Float.Ieee.{of_int}
-use Rattle.floats.specs.Exactly.{plus_zero, cast_exactly}
+use Rattle.floats.proofs.Exactly.{plus_zero, cast_exactly}
 use Rattle.rules.specs.declared.Refusal.{Refusal}
 use Rattle.rules.specs.Refusals.{Given}
 use Rattle.table.specs.declared.changed.Change.{Change}

@@ -5,7 +5,7 @@ use Rattle.std.specs.Float.{fin, binary64}
 use Rattle.std.specs.Float.Ieee.{of_int}
 use Rattle.integers.specs.Within.{Within}
 use Rattle.floats.specs.Promise.{Exactly}
-use Rattle.floats.specs.Exactly.{cast_exactly}
+use Rattle.floats.proofs.Exactly.{cast_exactly}
 use Rattle.rules.specs.Refusals.{Given}
 use Rattle.rules.specs.Order.{went_on}
 use Rattle.table.specs.Table.{Table, table}

@@ -10,7 +10,7 @@ use Rattle.std.specs.Float.Ieee.{down}
 use Rattle.std.specs.Float.Ieee.Exact.{HasValue}
 use Rattle.cubic.specs.Value.{numerator, denominator}
 use Rattle.floats.specs.Promise.{negative, Exactly}
-use Rattle.floats.specs.Exactly.{plus_zero}
+use Rattle.floats.proofs.Exactly.{plus_zero}
 use Rattle.rules.specs.Limits.{TooLarge}
 use Rattle.rules.specs.Order.{answer_right}
 use Rattle.table.specs.Table.{Table, table, step, too_few_or_many}

@@ -1,7 +1,7 @@
 -- The promise of `float_answer` fixes the number, the place and the answer, to the last bit of each float: no two results meet it.
 use Rattle.std.specs.Prelude.{◌≡◌, refl, ℕ, ℤ}
 use Rattle.std.proofs.Common.{sym, ◌∙◌, ap, subst}
-use Rattle.floats.specs.Exactly.{one_float}
+use Rattle.floats.proofs.Exactly.{one_float}
 use Rattle.rules.specs.Order.{one_given, one_answered}
 use Rattle.table.specs.Table.{Table}
 use Rattle.table.specs.Accepted.{Accepted}

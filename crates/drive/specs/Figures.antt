@@ -7,7 +7,7 @@ use Rattle.std.specs.Float.{fin, binary64}
 use Rattle.std.specs.Float.Ieee.{fits}
 use Rattle.integers.specs.Parts.{to_parts}
 use Rattle.floats.specs.Promise.{Exactly}
-use Rattle.floats.specs.Exactly.{plus_zero}
+use Rattle.floats.proofs.Exactly.{plus_zero}
 use Rattle.rules.specs.Limits.{TooLarge}
 use Rattle.position.specs.Position.{inside, at_last_knot}
 use Rattle.curve.specs.Figures.{falling}

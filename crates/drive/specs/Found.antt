@@ -8,7 +8,7 @@ use Rattle.std.specs.Int.{w32}
 use Rattle.integers.specs.Within.{Within}
 use Rattle.integers.specs.Sizes.{sized, code}
 use Rattle.integers.specs.Decided.{alike_or_not, <ℤ_or_not, ≡ℤ_or_not}
-use Rattle.floats.specs.Exactly.{cast_exactly}
+use Rattle.floats.proofs.Exactly.{cast_exactly}
 use Rattle.cubic.specs.Value.{numerator, denominator}
 use Rattle.rules.specs.Limits.{TooLarge}
 use Rattle.rules.specs.Known.{known_unit, known_width}

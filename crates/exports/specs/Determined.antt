@@ -1,7 +1,7 @@
 -- The promise of each record that stands for an enum fixes the record: no two meet it. Every other promise here is that of the function below, or an equation.
 use Rattle.std.specs.Prelude.{◌≡◌, refl, Bool, ℕ, ℤ, Float}
 use Rattle.std.proofs.Common.{ap}
-use Rattle.floats.specs.Exactly.{one_float}
+use Rattle.floats.proofs.Exactly.{one_float}
 use Rattle.piece.specs.Promise.{Ruling, ruling}
 use Rattle.piece.specs.Determined.{one_ruling}
 use Rattle.table.specs.Table.{Table}

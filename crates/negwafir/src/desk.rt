@@ -23,6 +23,7 @@ pub fn empty() -> Kept {
 
 // Answers the line that is held, once it is whole.
 pub fn answer(
+    rt: &(impl Print + Eprint),
     held: &[u8; LONGEST],
     input: Input,
     knots: &mut [i32; ROOM],
@@ -32,8 +33,8 @@ pub fn answer(
 ) -> Kept {
     let line = line_of(held, input);
     match commands::parse(line) {
-        Command::Set(list) => set(list, line, knots, values, slopes, kept),
-        command => other(command, input.number, knots, values, slopes, kept),
+        Command::Set(list) => set(rt, list, line, knots, values, slopes, kept),
+        command => other(rt, command, input.number, knots, values, slopes, kept),
     }
 }
 
@@ -47,6 +48,7 @@ fn line_of(held: &[u8; LONGEST], input: Input) -> &[u8] {
 
 // `knots N..` and its like: sets a list to the numbers of the line, all of which are known to be good.
 fn set(
+    rt: &(impl Print + Eprint),
     list: List,
     line: &[u8],
     knots: &mut [i32; ROOM],
@@ -59,7 +61,7 @@ fn set(
         List::Values => lists::set(values, line),
         List::Slopes => lists::set(slopes, line),
     };
-    reply(holding(kept, list, n), Reply::Count(n))
+    reply(rt, holding(kept, list, n), Reply::Count(n))
 }
 
 // The list holds n numbers now.
@@ -75,6 +77,7 @@ fn holding(before: Kept, list: List, n: usize) -> Kept {
 
 // What changes the table, and what only reads it.
 fn other(
+    rt: &(impl Print + Eprint),
     command: Command,
     number: u64,
     knots: &mut [i32; ROOM],
@@ -83,25 +86,32 @@ fn other(
     kept: Kept,
 ) -> Kept {
     match command {
-        Command::Build => build(knots, values, slopes, kept),
-        Command::Change(point) => change(wanted(point), knots, values, slopes, kept),
-        _ => read(command, number, knots, values, slopes, kept),
+        Command::Build => build(rt, knots, values, slopes, kept),
+        Command::Change(point) => change(rt, wanted(point), knots, values, slopes, kept),
+        _ => read(rt, command, number, knots, values, slopes, kept),
     }
 }
 
 // `build`: makes the slopes out of the knots and the values.
-fn build(knots: &[i32; ROOM], values: &[i32; ROOM], slopes: &mut [i32], kept: Kept) -> Kept {
+fn build(
+    rt: &(impl Print + Eprint),
+    knots: &[i32; ROOM],
+    values: &[i32; ROOM],
+    slopes: &mut [i32],
+    kept: Kept,
+) -> Kept {
     let done = slopes::build(
         kept.unit,
         front(knots, kept.knots),
         front(values, kept.values),
         front_to_change(slopes, kept.slopes),
     );
-    reply(kept, Reply::Done(done))
+    reply(rt, kept, Reply::Done(done))
 }
 
 // `change K X V`: gives point K the knot X and the value V.
 fn change(
+    rt: &(impl Print + Eprint),
     wanted: Change,
     knots: &mut [i32],
     values: &mut [i32],
@@ -115,7 +125,7 @@ fn change(
         front_to_change(slopes, kept.slopes),
         wanted,
     );
-    reply(kept, Reply::Done(done))
+    reply(rt, kept, Reply::Done(done))
 }
 
 fn wanted(point: commands::Point) -> Change {
@@ -136,6 +146,7 @@ fn numbered(k: i64) -> usize {
 
 // Every other command, which changes no list.
 fn read(
+    rt: &(impl Print + Eprint),
     command: Command,
     number: u64,
     knots: &[i32; ROOM],
@@ -147,12 +158,12 @@ fn read(
     let v = front(values, kept.values);
     let s = front(slopes, kept.slopes);
     if let Command::Show(list) = command {
-        return show(kept, list, k, v, s);
+        return show(rt, kept, list, k, v, s);
     }
     if let Command::SetUnit(unit) = command {
-        return set_unit(kept, unit);
+        return set_unit(rt, kept, unit);
     }
-    reply(kept, answer_to(command, number, kept.unit, k, v, s))
+    reply(rt, kept, answer_to(command, number, kept.unit, k, v, s))
 }
 
 fn answer_to(
@@ -175,30 +186,37 @@ fn answer_to(
 }
 
 // `show LIST`: the numbers of a list.
-fn show(before: Kept, list: List, knots: &[i32], values: &[i32], slopes: &[i32]) -> Kept {
+fn show(
+    rt: &(impl Print + Eprint),
+    before: Kept,
+    list: List,
+    knots: &[i32],
+    values: &[i32],
+    slopes: &[i32],
+) -> Kept {
     let mut kept = before;
     kept.written = match list {
-        List::Knots => say::row(knots),
-        List::Values => say::row(values),
-        List::Slopes => say::row(slopes),
+        List::Knots => say::row(rt, knots),
+        List::Values => say::row(rt, values),
+        List::Slopes => say::row(rt, slopes),
     };
     kept
 }
 
 // `unit S`: the unit of the slopes from now on. It asks nothing of the table.
-fn set_unit(before: Kept, unit: u32) -> Kept {
+fn set_unit(rt: &(impl Print + Eprint), before: Kept, unit: u32) -> Kept {
     let mut kept = before;
     kept.unit = unit;
     let done = Refusal {
         number: rules::DONE,
         place: 0,
     };
-    reply(kept, Reply::Done(done))
+    reply(rt, kept, Reply::Done(done))
 }
 
-fn reply(before: Kept, reply: Reply) -> Kept {
+fn reply(rt: &(impl Print + Eprint), before: Kept, reply: Reply) -> Kept {
     let mut kept = before;
-    kept.written = say::reply(reply);
+    kept.written = say::reply(rt, reply);
     kept
 }
 

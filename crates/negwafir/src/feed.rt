@@ -1,5 +1,6 @@
 // Lines out of standard input, of any number and length.
-use crate::Input;
+use crate::{Input, say};
+use std::io::Read;
 
 // The room for a line. It has two bytes more than the longest line that is answered: a CR may end such a line, and one byte past that tells that a line is
 // too long, so nothing is lost where the room is full.
@@ -21,12 +22,18 @@ pub fn start() -> Input {
 }
 
 // One step toward the next whole line: what was read is looked at up to where a line ends, or more is read.
-pub fn step(line: &mut [u8; LONGEST], chunk: &mut [u8; CHUNK], before: Input) -> Input {
+pub fn step(
+    rt: &impl Eprint,
+    source: &mut impl Read,
+    line: &mut [u8; LONGEST],
+    chunk: &mut [u8; CHUNK],
+    before: Input,
+) -> Input {
     let input = following(before);
     if input.at < input.filled {
         gather(line, chunk, input)
     } else {
-        read(chunk, input)
+        read(rt, source, chunk, input)
     }
 }
 
@@ -60,15 +67,21 @@ fn gather(line: &mut [u8; LONGEST], chunk: &[u8; CHUNK], before: Input) -> Input
 
 // Reads once. Where the input ends, what stands behind its last LF is a line too. A read that fails is said on standard error and ends the run: what is
 // held of a line is then no line.
-fn read(chunk: &mut [u8; CHUNK], before: Input) -> Input {
+fn read(rt: &impl Eprint, source: &mut impl Read, chunk: &mut [u8; CHUNK], before: Input) -> Input {
     let mut input = before;
-    let got = libc::read(libc::STDIN_FILENO, chunk);
-    input.filled = io::count(got, chunk);
     input.at = 0;
-    input.open = 0 < got;
-    input.whole = got == 0;
-    if got < 0 {
-        os::fail(b"negwafir: standard input");
+    match source.read(chunk) {
+        Ok(got) => {
+            input.filled = got;
+            input.open = 0 < got;
+            input.whole = got == 0;
+        }
+        Err(error) => {
+            input.filled = 0;
+            input.open = false;
+            input.whole = false;
+            say::failed(rt, "negwafir: standard input", error);
+        }
     }
     input
 }

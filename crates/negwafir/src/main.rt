@@ -28,7 +28,8 @@ pub struct Kept {
 }
 
 // A proved loop has to end, and nothing says that the input does. So the loop counts its turns down, from a number that no run uses up.
-fn main() {
+fn main(rt: HostRuntime) {
+    let mut source = rt.stdin();
     let mut line = [0u8; feed::LONGEST];
     let mut chunk = [0u8; feed::CHUNK];
     let mut knots = [0i32; lists::ROOM];
@@ -38,8 +39,16 @@ fn main() {
     let mut kept = desk::empty();
     let mut turns = u64::MAX;
     while turns > 0 && goes_on(input, kept) {
-        input = feed::step(&mut line, &mut chunk, input);
-        kept = desk::answer(&line, input, &mut knots, &mut values, &mut slopes, kept);
+        input = feed::step(&rt, &mut source, &mut line, &mut chunk, input);
+        kept = desk::answer(
+            &rt,
+            &line,
+            input,
+            &mut knots,
+            &mut values,
+            &mut slopes,
+            kept,
+        );
         turns -= 1;
     }
 }

@@ -10,24 +10,25 @@ const VALUES: [i32; 2] = [0, -10];
 
 const POSITIONS: [i32; 4] = [0, 1, 2, 3];
 
-fn main() {
+fn main(rt: HostRuntime) {
     let mut slopes = [0i32; 2];
     let built = slopes::build(S, &KNOTS, &VALUES, &mut slopes);
     if built.number != rules::DONE {
-        os::fail(b"sample: the points are refused");
+        let _ = eprintln!(rt; "sample: the points are refused");
         return;
     }
     let mut space = [0u8; 256];
     let out: &mut [u8] = &mut space;
     let n = words::append(out, 0, b"position,value\n");
-    let n = rows(out, n, &POSITIONS, &KNOTS, &VALUES, &slopes);
-    if !io::write_all(libc::STDOUT_FILENO, words::part(out, 0, n)) {
-        os::fail(b"sample: standard output");
+    let n = rows(&rt, out, n, &POSITIONS, &KNOTS, &VALUES, &slopes);
+    if let Err(error) = rt.write_all(words::part(out, 0, n)) {
+        let _ = eprintln!(rt; "sample: standard output: {error}");
     }
 }
 
 // A row for each position, behind the `held` bytes of a text.
 fn rows(
+    rt: &impl Eprint,
     out: &mut [u8],
     held: usize,
     positions: &[i32],
@@ -38,7 +39,7 @@ fn rows(
     let mut n = held;
     let mut i = 0;
     while i < positions.len() {
-        n = row(out, n, knots, values, slopes, positions[i]);
+        n = row(rt, out, n, knots, values, slopes, positions[i]);
         i += 1;
     }
     n
@@ -46,6 +47,7 @@ fn rows(
 
 // `position,value`. A position that is refused has no row.
 fn row(
+    rt: &impl Eprint,
     out: &mut [u8],
     held: usize,
     knots: &[i32],
@@ -55,7 +57,7 @@ fn row(
 ) -> usize {
     let at = curve::evaluate(S, knots, values, slopes, position);
     if at.refusal.number != rules::DONE {
-        os::fail(b"sample: a position is refused");
+        let _ = eprintln!(rt; "sample: a position is refused");
         return held;
     }
     let n = decimals::append_whole32(out, held, position);

@@ -1,6 +1,5 @@
 -- `calls::spread` is safe and ends: each turn goes one knot on.
 use Prim.Native.Nat.{◌-◌, ◌≤◌}
-use lib.ListN.{length}
 use borrow.Author.Rules.{rules}
 use Rattle.calls.proofs.spread.Statement.{statement}
 use Rattle.calls.proofs.spread.Tie as tie

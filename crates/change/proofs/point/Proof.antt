@@ -58,7 +58,7 @@ returns-then-refusal-ne-DONE c =
       unit_kept = refl;
       knots = kept {n = n} t.knots (changed_by change t).knots c.if-refusal-ne-DONE.true;
       values = kept {n = n} t.values (changed_by change t).values c.if-refusal-ne-DONE.true;
-      slopes = kept {n = n} t.slopes-1 (renewed_slopes change t) c.if-refusal-ne-DONE.true;
+      slopes = kept {n = n} t.slopes (renewed_slopes change t) c.if-refusal-ne-DONE.true;
     }
 
 -- ---- where nothing is refused
@@ -66,7 +66,7 @@ returns-then-refusal-ne-DONE c =
 there : (c : tie.Else-refusal-ne-DONE) → let s = (start c.before.before).args in s.change.point < length s.knots.now
 there c = let d = c.before.before in point_there (start d).args.change (old (start d)) c.if-refusal-ne-DONE.false (given d)
 
-lists : (c : tie.Else-refusal-ne-DONE) → let t = old (start c.before.before) in SameLengths t.knots t.values t.slopes-1
+lists : (c : tie.Else-refusal-ne-DONE) → let t = old (start c.before.before) in SameLengths t.knots t.values t.slopes
 lists c = let d = c.before.before in equally_long (start d).args.change (old (start d)) c.if-refusal-ne-DONE.false (given d)
 
 offset_bounds-knots-k : tie.Need-offset_bounds-knots-k
@@ -83,10 +83,10 @@ bounds-values-k c = omega (arith, there c, (lists c).values)
 
 -- the knots and the values that are written
 new_knots : (c : tie.After-struct_told-1) → let s = c.args in set s.knots.now s.change.point (to_z w32 (of_z w32 s.change.knot)) ≡ (changed_by s.change (old c.before)).knots
-new_knots c = let s = c.args in ap (set s.knots.now s.change.point) (to_z-of_z (record { sfits = c.struct_told-1.given.1.0.1 }))
+new_knots c = let s = c.args in ap (set s.knots.now s.change.point) (to_z-of_z {w = w32} (record { sfits = c.struct_told-1.given.1.0.1 }))
 
 new_values : (c : tie.After-struct_told-1) → let s = c.args in set s.values.now s.change.point (to_z w32 (of_z w32 s.change.value)) ≡ (changed_by s.change (old c.before)).values
-new_values c = let s = c.args in ap (set s.values.now s.change.point) (to_z-of_z (record { sfits = c.struct_told-1.given.1.1.0.1 }))
+new_values c = let s = c.args in ap (set s.values.now s.change.point) (to_z-of_z {w = w32} (record { sfits = c.struct_told-1.given.1.1.0.1 }))
 
 abbrev told : tie.Else-refusal-ne-DONE → tie.After-struct_told-1
 told c = c.before.before.before.before
@@ -100,7 +100,7 @@ handed c = returned w64 c.unit.type_inv c.unit.ensures.0
 
 renew-requires : tie.Need-renew-requires
 renew-requires c κs =
-    let u = c.before.before.before in
+    let u = c.before in
     let e = u.before in
     let d = e.before.before in
     let s = (start d).args in
@@ -108,7 +108,7 @@ renew-requires c κs =
       as_coded₁ (known_unit u.unit.result u.unit.ensures.1 ∷ []) UnitSize (search arguments depth 30 fits 9000) tt u.unit.ensures.1,
       (
         subst₂ PointsWithin (sym (new_knots (told e))) (sym (new_values (told e))) (accepted_then s.change (old (start d)) e.if-refusal-ne-DONE.false (given d)),
-        ((lists e).slopes-1 ∙ sym (length-set list s.change.point _), lt-length-set list s.change.point _ (there e)),
+        ((lists e).slopes ∙ sym (length-set list s.change.point _), lt-length-set list s.change.point _ (there e)),
       ),
     )
 
@@ -127,8 +127,8 @@ new_slopes c =
     let e = u.before in
     let s = (start e.before.before).args in
     c.renew.ensures
-    ∙ ap₂ (λ (ks vs : List ℤ). renewed s.change.point (built_slope (to_z w64 (of_z w64 u.unit.result)) ks vs) s.slopes-1.now) (new_knots (told e)) (new_values (told e))
-    ∙ ap (λ (U : ℤ). renewed s.change.point (built_slope U (changed_by s.change (old (start e.before.before))).knots (changed_by s.change (old (start e.before.before))).values) s.slopes-1.now) (handed u)
+    ∙ ap₂ (λ (ks vs : List ℤ). renewed s.change.point (built_slope (to_z w64 (of_z w64 u.unit.result)) ks vs) s.slopes.now) (new_knots (told e)) (new_values (told e))
+    ∙ ap (λ (U : ℤ). renewed s.change.point (built_slope U (changed_by s.change (old (start e.before.before))).knots (changed_by s.change (old (start e.before.before))).values) s.slopes.now) (handed u)
 
 returns : tie.Need-returns
 returns c =
@@ -142,7 +142,7 @@ returns c =
       unit_kept = refl;
       knots = new_knots (told e) ∙ replaced t.knots (changed_by change t).knots done;
       values = new_values (told e) ∙ replaced t.values (changed_by change t).values done;
-      slopes = new_slopes c ∙ replaced t.slopes-1 (renewed_slopes change t) done;
+      slopes = new_slopes c ∙ replaced t.slopes (renewed_slopes change t) done;
     }
 
 pub point_spec : {M : Type 1} → statement M

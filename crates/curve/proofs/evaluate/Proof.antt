@@ -57,9 +57,9 @@ enum_known-spot c = search rules
 
 -- within the knots, and where in its piece
 spot : (c : tie.In-On)
-    → let s = c in
+    → let s = c.args in
     let r = c.in-On.spot in
-    WithinKnots s.args.knots.now s.args.position × SpotOn s.args.knots.now s.args.values.now s.args.slopes.now r.piece s.args.position r.left r.h r.z r.m r.n r.t
+    WithinKnots s.knots.now s.position × SpotOn s.knots.now s.values.now s.slopes.now r.piece s.position r.left r.h r.z r.m r.n r.t
 spot c = sought_on (subst (SoughtIn _ _ _ _) c.in-On.is (sought c.before))
 
 -- where nothing refuses

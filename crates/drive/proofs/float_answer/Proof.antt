@@ -75,33 +75,33 @@ enum_known-spot : tie.Need-enum_known-spot
 enum_known-spot c = search rules
 
 -- within the knots, and where in its piece
-spot : (c : tie.In-On-2)
-    → let s = c.before.before.before.before.before.before in
+spot : (c : tie.In-On)
+    → let s = c.args in
     let r = c.in-On.spot in
-    WithinKnots s.args.knots.now s.args.position × SpotOn s.args.knots.now s.args.values.now s.args.slopes.now r.piece s.args.position r.left r.h r.z r.m r.n r.t
+    WithinKnots s.knots.now s.position × SpotOn s.knots.now s.values.now s.slopes.now r.piece s.position r.left r.h r.z r.m r.n r.t
 spot c = sought_on (subst (SoughtIn _ _ _ _) c.in-On.is (sought c.before))
 
 -- where nothing before it refuses
-abbrev here : tie.In-On-2 → tie.Else-refusal-ne-DONE
+abbrev here : tie.In-On → tie.Else-refusal-ne-DONE
 here c = c.before.before
 
 unit-requires : tie.Need-unit-requires
-unit-requires c κs = (accepted (here c.before)).unit
+unit-requires c κs = (accepted (here c)).unit
 
 -- the unit, as it is handed on
-handed : (c : tie.After-unit) → to_z w64 (of_z w64 c.unit.result) ≡ unit (here c.before.before).args.s
+handed : (c : tie.After-unit) → to_z w64 (of_z w64 c.unit.result) ≡ unit c.args.s
 handed c = returned w64 c.unit.type_inv c.unit.ensures.0
 
 answer_on-requires : tie.Need-answer_on-requires
 answer_on-requires c κs =
-    let k = c.before.before in
+    let k = c.before in
     let r = k.in-On.spot in
     subst (λ (U : ℤ). InPiece U r.h r.z r.m r.n r.t) (sym (handed c)) (inside_spot (accepted (here k)) (spot k).1)
 
 returns-in-On : tie.Need-returns-in-On
 returns-in-On c =
     let u = c.before in
-    let k = u.before.before in
+    let k = u.before in
     let e = here k in
     let on = spot k in
     let at = k.in-On.spot in

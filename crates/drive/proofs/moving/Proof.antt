@@ -10,7 +10,7 @@ use mir.Val.{to_z, of_z}
 use Rattle.integers.specs.Sizes.{Known, known, held, fits, plain_is, code}
 use Rattle.integers.specs.Arguments.{arguments, plainly₅, as_coded₁, as_coded₄}
 use Rattle.floats.specs.Promise.{Exactly}
-use Rattle.floats.specs.Cast.{may_cast, cast_is}
+use Rattle.floats.proofs.Cast.{may_cast, cast_is}
 use Rattle.cubic.specs.Value.{numerator}
 use Rattle.cubic.specs.Horner.{HornerWithin}
 use Rattle.rules.specs.Limits.{WidthWithin, RiseWithin}

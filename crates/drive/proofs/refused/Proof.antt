@@ -1,7 +1,7 @@
 -- `drive::refused` meets its contract: the code's 0.0 is +0.
 use mathlib.Core.Path.{refl, ap}
 use lib.Ieee.{binary64}
-use Rattle.floats.specs.Exactly.{one_float, plus_zero, zero_in_code}
+use Rattle.floats.proofs.Exactly.{one_float, plus_zero, zero_in_code}
 use Rattle.drive.specs.Drive.{dwell}
 use Rattle.drive.proofs.refused.Statement.{statement}
 use Rattle.drive.proofs.refused.Tie as tie

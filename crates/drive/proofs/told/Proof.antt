@@ -10,7 +10,7 @@ use mir.Facts.{to_z-of_z}
 use Rattle.integers.specs.Sizes.{Known, held, code}
 use Rattle.integers.specs.Tests.{zeros, zero_yes, zero_no}
 use Rattle.floats.specs.Promise.{Exactly}
-use Rattle.floats.specs.Cast.{cast_is}
+use Rattle.floats.proofs.Cast.{cast_is}
 use Rattle.cubic.specs.Value.{numerator, denominator}
 use Rattle.rules.specs.Limits.{TooLarge}
 use Rattle.rules.specs.Known.{known_rise}

@@ -22,7 +22,7 @@ returns-then-k-lt3 : tie.Need-returns-then-k-lt3
 returns-then-k-lt3 c =
     let a = c.args in
     let r = c.append_signed in
-    subst⁻¹ (λ (l : List ℕ). Appended a.into.now a.held l r.new.0 r.result) c.pick.ensures r.ensures
+    subst⁻¹ (λ (l : List ℕ). Appended a.into.now a.held l r.new.into r.result) c.pick.ensures r.ensures
 
 append-requires : tie.Need-append-requires
 append-requires c κs = search rules
@@ -34,7 +34,7 @@ returns : tie.Need-returns
 returns c =
     let a = c.args in
     let r = c.append in
-    subst⁻¹ (λ (l : List ℕ). Appended a.into.now a.held l r.new.0 r.result)
+    subst⁻¹ (λ (l : List ℕ). Appended a.into.now a.held l r.new.into r.result)
     (ap next_text (drop_of_length-le (a.first ∷ a.second ∷ a.third ∷ []) c.if-k-lt3.false))
     r.ensures
 
@@ -46,7 +46,6 @@ append_next_spec =
     append_signed-requires
     shape_of-into-then-k-lt3
     returns-then-k-lt3
-    slice_aggregate_append
     append-requires
     shape_of-into
     returns)

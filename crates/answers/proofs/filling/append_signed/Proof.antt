@@ -24,7 +24,7 @@ returns-then-number c =
     let a = c.args in
     let r = c.append_natural in
     let signed = c.append-signed in
-    subst⁻¹ (λ (l : List ℕ). Appended a.into.now a.held l r.new.0 r.result)
+    subst⁻¹ (λ (l : List ℕ). Appended a.into.now a.held l r.new.into r.result)
     (ap (λ (t : Bool). cond t (45 ∷ decimal_of a.number.size) (decimal_of a.number.size)) c.if-number.true)
     (both {m = 45 ∷ []} signed.ensures r.ensures)
 
@@ -38,7 +38,7 @@ returns : tie.Need-returns
 returns c =
     let a = c.args in
     let r = c.append_natural-2 in
-    subst⁻¹ (λ (l : List ℕ). Appended a.into.now a.held l r.new.0 r.result)
+    subst⁻¹ (λ (l : List ℕ). Appended a.into.now a.held l r.new.into r.result)
     (ap (λ (t : Bool). cond t (45 ∷ decimal_of a.number.size) (decimal_of a.number.size)) c.if-number.false)
     r.ensures
 
@@ -46,7 +46,6 @@ pub append_signed_spec : {M : Type 1} → statement M
 append_signed_spec =
     tie.close
     (tie.spec
-    slice_aggregate_append
     append-signed-requires
     append_natural-requires
     shape_of-into-then-number

@@ -48,13 +48,12 @@ loop-i-smaller c = search rules
 
 loop-i-preserved : tie.Need-loop-i-preserved invariant-loop-i decreases-loop-i
 loop-i-preserved c =
-    let at-loop = c.before.before.before.before.before.before.before in
-    let a = at-loop.args in
+    let a = c.args in
     let numbers : List Signed = a.first ∷ a.second ∷ a.third ∷ [] in
-    let k = at-loop.loop-i.k in
-    let i = at-loop.loop-i.i in
+    let k = c.loop-i.k in
+    let i = c.loop-i.i in
     let byte = get_or a.template.now i 0 in (
-      go_on at-loop.loop-i.invariant.0
+      go_on c.loop-i.invariant.0
           {more = in_place byte a.text.now (drop k numbers)}
           (filled_on a.template.now a.text.now numbers i k c.passed-k.result c.loop-i-test.true c.passed-k.ensures)
           c.place-n.ensures,
@@ -73,12 +72,11 @@ shape_of-into c = search rules
 
 returns : tie.Need-returns invariant-loop-i decreases-loop-i
 returns c =
-    let at-loop = c.before.before.before.before.before.before in
-    let a = at-loop.args in
+    let a = c.args in
     let r = c.append in
     let numbers : List Signed = a.first ∷ a.second ∷ a.third ∷ [] in
-    let out = filled_out a.template.now a.text.now numbers at-loop.loop-i.i at-loop.loop-i.k c.loop-i-test.false in
-    at-loop.loop-i.invariant.0.ended (subst⁻¹ (λ (l : List ℕ). Appended at-loop.loop-i.into-1 at-loop.loop-i.n l r.new.0 r.result) out r.ensures)
+    let out = filled_out a.template.now a.text.now numbers c.loop-i.i c.loop-i.k c.loop-i-test.false in
+    c.loop-i.invariant.0.ended (subst⁻¹ (λ (l : List ℕ). Appended c.loop-i.into c.loop-i.n l r.new.into r.result) out r.ensures)
 
 pub fill_spec : {M : Type 1} → statement M
 fill_spec =

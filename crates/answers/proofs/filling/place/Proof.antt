@@ -31,7 +31,7 @@ returns-then-b-eq35 : tie.Need-returns-then-b-eq35
 returns-then-b-eq35 c =
     let a = c.args in
     let r = c.append_next in
-    subst⁻¹ (λ (l : List ℕ). Appended a.into.now a.held l r.new.0 r.result) (number a.text.now (drop a.k (a.first ∷ a.second ∷ a.third ∷ [])) c.if-b-eq35.true) r.ensures
+    subst⁻¹ (λ (l : List ℕ). Appended a.into.now a.held l r.new.into r.result) (number a.text.now (drop a.k (a.first ∷ a.second ∷ a.third ∷ [])) c.if-b-eq35.true) r.ensures
 
 append-requires : tie.Need-append-requires
 append-requires c κs = search rules
@@ -43,7 +43,7 @@ returns-then-b-eq36 : tie.Need-returns-then-b-eq36
 returns-then-b-eq36 c =
     let a = c.args in
     let r = c.append in
-    subst⁻¹ (λ (l : List ℕ). Appended a.into.now a.held l r.new.0 r.result) (given a.text.now (drop a.k (a.first ∷ a.second ∷ a.third ∷ [])) c.if-b-eq35.false c.if-b-eq36.true) r.ensures
+    subst⁻¹ (λ (l : List ℕ). Appended a.into.now a.held l r.new.into r.result) (given a.text.now (drop a.k (a.first ∷ a.second ∷ a.third ∷ [])) c.if-b-eq35.false c.if-b-eq36.true) r.ensures
 
 slice_bounds-append-end : tie.Need-slice_bounds-append-end
 slice_bounds-append-end c = search rules
@@ -58,7 +58,7 @@ returns : tie.Need-returns
 returns c =
     let a = c.args in
     let r = c.append-2 in
-    subst⁻¹ (λ (l : List ℕ). Appended a.into.now a.held l r.new.0 r.result) (itself a.text.now (drop a.k (a.first ∷ a.second ∷ a.third ∷ [])) c.if-b-eq35.false c.if-b-eq36.false) r.ensures
+    subst⁻¹ (λ (l : List ℕ). Appended a.into.now a.held l r.new.into r.result) (itself a.text.now (drop a.k (a.first ∷ a.second ∷ a.third ∷ [])) c.if-b-eq35.false c.if-b-eq36.false) r.ensures
 
 pub place_spec : {M : Type 1} → statement M
 place_spec =

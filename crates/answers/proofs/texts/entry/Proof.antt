@@ -30,11 +30,10 @@ slice_bounds-result-end c = search rules
 
 returns-then-texts-end : tie.Need-returns-then-texts-end invariant-loop-i decreases-loop-i
 returns-then-texts-end c =
-    let at-loop = c.before.before.before.before in
-    let a = at-loop.args in
-    let next = later a.texts.now at-loop.loop-i.start a.k at-loop.loop-i.i c.loop-i-test.true in
-    let out = drop_of_length-le a.texts.now {i = first_of 10 a.texts.now at-loop.loop-i.start + 1} (omega (arith, c.find-end.ensures, c.if-texts-end.true)) in
-    sym (at-loop.loop-i.invariant.1 ∙ next ∙ ap (entry_of (a.k - (at-loop.loop-i.i + 1))) out ∙ none (a.k - (at-loop.loop-i.i + 1)))
+    let a = c.args in
+    let next = later a.texts.now c.loop-i.start a.k c.loop-i.i c.loop-i-test.true in
+    let out = drop_of_length-le a.texts.now {i = first_of 10 a.texts.now c.loop-i.start + 1} (omega (arith, c.find-end.ensures, c.if-texts-end.true)) in
+    sym (c.loop-i.invariant.1 ∙ next ∙ ap (entry_of (a.k - (c.loop-i.i + 1))) out ∙ none (a.k - (c.loop-i.i + 1)))
 
 overflow_add-start : tie.Need-overflow_add-start invariant-loop-i decreases-loop-i
 overflow_add-start c = search rules
@@ -47,10 +46,9 @@ loop-i-smaller c = search rules
 
 loop-i-preserved : tie.Need-loop-i-preserved invariant-loop-i decreases-loop-i
 loop-i-preserved c =
-    let at-loop = c.before.before.before in
-    let a = at-loop.args in
-    let next = later a.texts.now at-loop.loop-i.start a.k at-loop.loop-i.i c.loop-i-test.true in
-    (omega arith, at-loop.loop-i.invariant.1 ∙ next ∙ ap (λ (m : ℕ). entry_of (a.k - (at-loop.loop-i.i + 1)) (drop (m + 1) a.texts.now)) (sym c.find-end.ensures))
+    let a = c.args in
+    let next = later a.texts.now c.loop-i.start a.k c.loop-i.i c.loop-i-test.true in
+    (omega arith, c.loop-i.invariant.1 ∙ next ∙ ap (λ (m : ℕ). entry_of (a.k - (c.loop-i.i + 1)) (drop (m + 1) a.texts.now)) (sym c.find-end.ensures))
 
 find-requires : tie.Need-find-requires invariant-loop-i decreases-loop-i
 find-requires c κs = search rules
@@ -60,11 +58,10 @@ part-requires c κs = search rules
 
 returns : tie.Need-returns invariant-loop-i decreases-loop-i
 returns c =
-    let at-loop = c.before.before.before in
-    let a = at-loop.args in
-    let passed : a.k - at-loop.loop-i.i ≡ 0 = omega arith in
-    c.part.ensures ∙ ap (part_of a.texts.now at-loop.loop-i.start) c.find.ensures ∙ first a.texts.now at-loop.loop-i.start
-    ∙ ap (λ (m : ℕ). entry_of m (drop at-loop.loop-i.start a.texts.now)) (sym passed) ∙ sym at-loop.loop-i.invariant.1
+    let a = c.args in
+    let passed : a.k - c.loop-i.i ≡ 0 = omega arith in
+    c.part.ensures ∙ ap (part_of a.texts.now c.loop-i.start) c.find.ensures ∙ first a.texts.now c.loop-i.start
+    ∙ ap (λ (m : ℕ). entry_of m (drop c.loop-i.start a.texts.now)) (sym passed) ∙ sym c.loop-i.invariant.1
 
 pub entry_spec : {M : Type 1} → statement M
 entry_spec =

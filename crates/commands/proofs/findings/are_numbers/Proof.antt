@@ -29,11 +29,11 @@ enum_known-fault c = search rules
 
 returns-in-Clear : tie.Need-returns-in-Clear
 unfolding or_else
-returns-in-Clear c = c.first_fault.ensures ∙ after c.before.before.before c.in-Clear.is
+returns-in-Clear c = c.first_fault.ensures ∙ after c.before.before c.in-Clear.is
 
 returns-in-Faulty : tie.Need-returns-in-Faulty
 unfolding or_else
-returns-in-Faulty c = after c.before.before.before c.in-Faulty.is
+returns-in-Faulty c = after c.before c.in-Faulty.is
 
 pub are_numbers_spec : {M : Type 1} → statement M
 are_numbers_spec =

@@ -69,30 +69,25 @@ enum_known-fault c = search rules
 
 returns-in-Faulty : tie.Need-returns-in-Faulty invariant-loop-start decreases-loop-start
 returns-in-Faulty c =
-    let found = c.before.before.before in
-    let passed = found.before.before in
-    sym (passed.loop-start.invariant.0 ∙ ap (first_fault _ _) (word passed).first ∙ stops _ _ _ _ (seen found c.in-Faulty.is))
+    sym (c.loop-start.invariant.0 ∙ ap (first_fault _ _) (word c.before.before.before).first ∙ stops _ _ _ _ (seen c.before c.in-Faulty.is))
 
 enum_told-1 : tie.Need-enum_told-1 invariant-loop-start decreases-loop-start
 enum_told-1 c = search rules
 
 loop-start-smaller : tie.Need-loop-start-smaller invariant-loop-start decreases-loop-start
-loop-start-smaller c = let f = word c.before.before.before.before in omega arith
+loop-start-smaller c = let f = word c.before.before.before in omega arith
 
 loop-start-preserved : tie.Need-loop-start-preserved invariant-loop-start decreases-loop-start
 loop-start-preserved c =
-    let found = c.before.before in
-    let passed = found.before.before in
-    let f = word passed in
-    (passed.loop-start.invariant.0 ∙ ap (first_fault _ _) f.first ∙ goes_on _ _ _ _ (seen found c.in_default-is_number.is), omega arith)
+    let f = word c.before.before.before in
+    (c.loop-start.invariant.0 ∙ ap (first_fault _ _) f.first ∙ goes_on _ _ _ _ (seen c.before c.in_default-is_number.is), omega arith)
 
 enum_told-in_default : tie.Need-enum_told-in_default invariant-loop-start decreases-loop-start
 enum_told-in_default c = search rules
 
 returns : tie.Need-returns invariant-loop-start decreases-loop-start
 returns c =
-    let found = c.before.before in
-    sym (found.loop-start.invariant.0 ∙ ap (first_fault _ _) (no_word _ _ (sym found.next_word.ensures ∙ c.in_default.is)) ∙ no_fault _ _)
+    sym (c.loop-start.invariant.0 ∙ ap (first_fault _ _) (no_word _ _ (sym c.next_word.ensures ∙ c.in_default.is)) ∙ no_fault _ _)
 
 pub first_fault_spec : {M : Type 1} → statement M
 first_fault_spec =

@@ -31,13 +31,13 @@ enum_told-in-TooLarge : tie.Need-enum_told-in-TooLarge
 enum_told-in-TooLarge c = search rules
 
 returns-in-Is : tie.Need-returns-in-Is
-returns-in-Is c = wide c.before.before c.in-Is.is
+returns-in-Is c = wide c.before c.in-Is.is
 
 returns-in-NotDecimal : tie.Need-returns-in-NotDecimal
-returns-in-NotDecimal c = wide c.before.before c.in-NotDecimal.is
+returns-in-NotDecimal c = wide c.before c.in-NotDecimal.is
 
 returns-in-TooLarge : tie.Need-returns-in-TooLarge
-returns-in-TooLarge c = wide c.before.before c.in-TooLarge.is
+returns-in-TooLarge c = wide c.before c.in-TooLarge.is
 
 whole32-requires : tie.Need-whole32-requires
 whole32-requires c κs = search rules
@@ -52,13 +52,13 @@ enum_told-in-TooLarge-whole32 : tie.Need-enum_told-in-TooLarge-whole32
 enum_told-in-TooLarge-whole32 c = search rules
 
 returns-in-Is-whole32 : tie.Need-returns-in-Is-whole32
-returns-in-Is-whole32 c = narrow c.before.before c.in-Is-whole32.is
+returns-in-Is-whole32 c = narrow c.before c.in-Is-whole32.is
 
 returns-in-NotDecimal-whole32 : tie.Need-returns-in-NotDecimal-whole32
-returns-in-NotDecimal-whole32 c = narrow c.before.before c.in-NotDecimal-whole32.is
+returns-in-NotDecimal-whole32 c = narrow c.before c.in-NotDecimal-whole32.is
 
 returns-in-TooLarge-whole32 : tie.Need-returns-in-TooLarge-whole32
-returns-in-TooLarge-whole32 c = narrow c.before.before c.in-TooLarge-whole32.is
+returns-in-TooLarge-whole32 c = narrow c.before c.in-TooLarge-whole32.is
 
 pub is_number_spec : {M : Type 1} → statement M
 is_number_spec =

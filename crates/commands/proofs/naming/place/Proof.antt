@@ -48,9 +48,8 @@ same-requires c κs = search rules
 
 returns-then-same : tie.Need-returns-then-same invariant-loop-start decreases-loop-start
 returns-then-same c =
-    let passed = c.before.before.before in
-    let here = ap (place_of _) (name passed).first ∙ place_here _ _ _ (seen c.before c.if-same.true) in
-    omega (arith, passed.loop-start.invariant.0)
+    let here = ap (place_of _) (name c.before.before.before).first ∙ place_here _ _ _ (seen c.before c.if-same.true) in
+    omega (arith, c.loop-start.invariant.0)
 
 overflow_add-k : tie.Need-overflow_add-k invariant-loop-start decreases-loop-start
 overflow_add-k c = let f = name c.before.before.before in omega arith
@@ -60,10 +59,9 @@ loop-start-smaller c = let f = name c.before.before.before in omega arith
 
 loop-start-preserved : tie.Need-loop-start-preserved invariant-loop-start decreases-loop-start
 loop-start-preserved c =
-    let passed = c.before.before.before in
-    let f = name passed in
+    let f = name c.before.before.before in
     let on = ap (place_of _) f.first ∙ place_on _ _ _ (seen c.before c.if-same.false) in
-    (omega (arith, passed.loop-start.invariant.0), omega arith)
+    (omega (arith, c.loop-start.invariant.0), omega arith)
 
 enum_told-1 : tie.Need-enum_told-1 invariant-loop-start decreases-loop-start
 enum_told-1 c = search rules

@@ -36,13 +36,13 @@ enum_told-in-TooLarge c = search rules
 returns-in-Is : tie.Need-returns-in-Is
 returns-in-Is c =
     let fits : SFits w64 c.in-Is.n = search rules in
-    to_z-of_z fits ∙ said c.before.before.before c.in-Is.is
+    to_z-of_z fits ∙ said c.before c.in-Is.is
 
 returns-in-NotDecimal : tie.Need-returns-in-NotDecimal
-returns-in-NotDecimal c = said c.before.before c.in-NotDecimal.is
+returns-in-NotDecimal c = said c.before c.in-NotDecimal.is
 
 returns-in-TooLarge : tie.Need-returns-in-TooLarge
-returns-in-TooLarge c = said c.before.before c.in-TooLarge.is
+returns-in-TooLarge c = said c.before c.in-TooLarge.is
 
 pub wide_at_spec : {M : Type 1} → statement M
 wide_at_spec =

@@ -48,8 +48,7 @@ part-requires c κs = search rules
 
 returns-then-i-k : tie.Need-returns-then-i-k invariant-loop-start decreases-loop-start
 returns-then-i-k c =
-    let passed = c.before.before in
-    c.part.ensures ∙ sym (passed.loop-start.invariant.0 ∙ here (word passed).first c.if-i-k.true)
+    c.part.ensures ∙ sym (c.loop-start.invariant.0 ∙ here (word c.before.before).first c.if-i-k.true)
 
 overflow_add-i : tie.Need-overflow_add-i invariant-loop-start decreases-loop-start
 overflow_add-i c = omega arith
@@ -68,9 +67,8 @@ slice_bounds-result-end c = search rules
 
 returns : tie.Need-returns invariant-loop-start decreases-loop-start
 returns c =
-    let found = c.before.before.before in
-    let none = no_word _ _ (sym found.next_word.ensures ∙ c.in_default.is) in
-    sym (found.loop-start.invariant.0 ∙ nowhere _ none)
+    let none = no_word _ _ (sym c.next_word.ensures ∙ c.in_default.is) in
+    sym (c.loop-start.invariant.0 ∙ nowhere _ none)
 
 pub word_at_spec : {M : Type 1} → statement M
 word_at_spec =

@@ -1,6 +1,7 @@
 -- `commands::parsing::at` meets its contract: it is made as its definition is.
 use borrow.Author.Rules.{rules}
 use mathlib.Core.Path.{ap, ap₂, ◌∙◌}
+use mir.Syntax.{w32}
 use mir.Facts.{to_z-of_z}
 use Rattle.commands.specs.declared.Command.TheVariants.{At}
 use Rattle.commands.specs.Commands.{unless}
@@ -18,8 +19,7 @@ unless_faulty-requires c κs = search rules
 
 returns : tie.Need-returns
 returns c =
-    let x = c.before in
-    c.unless_faulty.ensures ∙ ap₂ unless x.are_numbers.ensures (ap At (to_z-of_z (record { sfits = x.narrow_at.type_inv }) ∙ x.narrow_at.ensures))
+    c.unless_faulty.ensures ∙ ap₂ unless c.are_numbers.ensures (ap At (to_z-of_z {w = w32} (record { sfits = c.narrow_at.type_inv }) ∙ c.narrow_at.ensures))
 
 pub at_spec : {M : Type 1} → statement M
 at_spec =

@@ -2,6 +2,7 @@
 use borrow.Author.Rules.{rules}
 use mathlib.Core.Path.{◌≡◌, ap₂, ◌∙◌}
 use lib.IntN.{ℤ}
+use mir.Syntax.{w32, w64}
 use mir.Facts.{to_z-of_z}
 use Rattle.commands.specs.declared.Command.TheVariants.{Change}
 use Rattle.commands.specs.Commands.{unless}
@@ -29,13 +30,10 @@ unless_faulty-requires c κs = search rules
 
 returns : tie.Need-returns
 returns c =
-    let value = c.before.before in
-    let knot = value.before in
-    let number = knot.before in
     c.unless_faulty.ensures
     ∙ ap₂ unless c.are_numbers.ensures
-    (points (to_z-of_z (record { sfits = number.wide_at.type_inv }) ∙ number.wide_at.ensures)
-    (to_z-of_z (record { sfits = knot.narrow_at.type_inv }) ∙ knot.narrow_at.ensures) (to_z-of_z (record { sfits = value.narrow_at-2.type_inv }) ∙ value.narrow_at-2.ensures))
+    (points (to_z-of_z {w = w64} (record { sfits = c.wide_at.type_inv }) ∙ c.wide_at.ensures)
+    (to_z-of_z {w = w32} (record { sfits = c.narrow_at.type_inv }) ∙ c.narrow_at.ensures) (to_z-of_z {w = w32} (record { sfits = c.narrow_at-2.type_inv }) ∙ c.narrow_at-2.ensures))
 
 pub change_spec : {M : Type 1} → statement M
 change_spec =

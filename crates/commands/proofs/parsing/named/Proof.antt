@@ -106,14 +106,13 @@ returns-in-10 : tie.Need-returns-in-10
 returns-in-10 c = arm c.before.before c.in-10.is c.unit.ensures
 
 returns-in_default : tie.Need-returns-in_default
-returns-in_default c = none_chosen (command_table (words c.before)) (Wrong NoCommand) (name c.before) (placed c.before) c.in_default.rest
+returns-in_default c = none_chosen (command_table (words c.before)) (Wrong NoCommand) (name c.before) (placed c.before) c.in_default.in_default-own.rest
 
 pub named_spec : {M : Type 1} → statement M
 named_spec =
     tie.close
     (tie.spec
     part-name-requires
-    slice_aggregate_place
     place-requires
     set-requires
     set-requires-in-1

@@ -42,18 +42,14 @@ enum_told-1 c = search rules
 
 returns-in-At : tie.Need-returns-in-At
 returns-in-At c =
-    let found = c.before.before.before.before in
-    let asked = found.before in
-    let word = a_word _ _ _ _ (sym found.next_word.ensures ∙ c.in-At.is) in
-    not_long asked.args.line.now asked.if-line-gt-LONGEST.false (sym asked.if-is_comment.false ∙ asked.is_comment.ensures)
+    let word = a_word _ _ _ _ (sym c.next_word.ensures ∙ c.in-At.is) in
+    not_long c.args.line.now c.if-line-gt-LONGEST.false (sym c.if-is_comment.false ∙ c.is_comment.ensures)
     (c.named.ensures ∙ ap by_words (sym word.first))
 
 returns-in-Nothing : tie.Need-returns-in-Nothing
 returns-in-Nothing c =
-    let found = c.before.before in
-    let asked = found.before in
-    not_long asked.args.line.now asked.if-line-gt-LONGEST.false (sym asked.if-is_comment.false ∙ asked.is_comment.ensures)
-    (ap by_words (sym (no_word _ _ (sym found.next_word.ensures ∙ c.in-Nothing.is))))
+    not_long c.args.line.now c.if-line-gt-LONGEST.false (sym c.if-is_comment.false ∙ c.is_comment.ensures)
+    (ap by_words (sym (no_word _ _ (sym c.next_word.ensures ∙ c.in-Nothing.is))))
 
 pub parse_spec : {M : Type 1} → statement M
 parse_spec =

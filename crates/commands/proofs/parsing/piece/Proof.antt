@@ -2,6 +2,7 @@
 use borrow.Author.Rules.{rules}
 use mathlib.Core.Path.{◌≡◌, ap₂, ◌∙◌}
 use lib.IntN.{ℤ}
+use mir.Syntax.{w32, w64}
 use mir.Facts.{to_z-of_z}
 use Rattle.commands.specs.declared.Command.TheVariants.{Piece}
 use Rattle.commands.specs.Commands.{unless}
@@ -32,14 +33,10 @@ unless_faulty-requires c κs = search rules
 
 returns : tie.Need-returns
 returns c =
-    let n = c.before.before in
-    let m = n.before in
-    let z = m.before in
-    let h = z.before in
     c.unless_faulty.ensures
     ∙ ap₂ unless c.are_numbers.ensures
-    (pieces (to_z-of_z (record { sfits = h.wide_at.type_inv }) ∙ h.wide_at.ensures) (to_z-of_z (record { sfits = z.wide_at-2.type_inv }) ∙ z.wide_at-2.ensures)
-    (to_z-of_z (record { sfits = m.narrow_at.type_inv }) ∙ m.narrow_at.ensures) (to_z-of_z (record { sfits = n.narrow_at-2.type_inv }) ∙ n.narrow_at-2.ensures))
+    (pieces (to_z-of_z {w = w64} (record { sfits = c.wide_at.type_inv }) ∙ c.wide_at.ensures) (to_z-of_z {w = w64} (record { sfits = c.wide_at-2.type_inv }) ∙ c.wide_at-2.ensures)
+    (to_z-of_z {w = w32} (record { sfits = c.narrow_at.type_inv }) ∙ c.narrow_at.ensures) (to_z-of_z {w = w32} (record { sfits = c.narrow_at-2.type_inv }) ∙ c.narrow_at-2.ensures))
 
 pub piece_spec : {M : Type 1} → statement M
 piece_spec =

@@ -22,8 +22,7 @@ unless_faulty-requires c κs = search rules
 returns : tie.Need-returns
 unfolding is_list
 returns c =
-    let asked = c.before.before in
-    c.unless_faulty.ensures ∙ rw (c.first_fault.ensures, ← asked.count.ensures, le-ltb _ _ asked.if-count-gt-ROOM.false)
+    c.unless_faulty.ensures ∙ rw (c.first_fault.ensures, ← c.count.ensures, le-ltb _ _ c.if-count-gt-ROOM.false)
 
 pub set_spec : {M : Type 1} → statement M
 set_spec =

@@ -19,9 +19,7 @@ unless_faulty-requires c κs = search rules
 
 returns : tie.Need-returns
 returns c =
-    let x = c.before in
-    let word = x.before in
-    c.unless_faulty.ensures ∙ ap₂ unless word.are_words.ensures (x.shown.ensures ∙ ap shown_of word.word_at.ensures)
+    c.unless_faulty.ensures ∙ ap₂ unless c.are_words.ensures (c.shown.ensures ∙ ap shown_of c.word_at.ensures)
 
 pub show_spec : {M : Type 1} → statement M
 show_spec =

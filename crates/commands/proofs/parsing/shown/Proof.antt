@@ -28,9 +28,9 @@ returns-in-3 : tie.Need-returns-in-3
 returns-in-3 c = chosen_at shown_table _ _ (sym c.in-3.is ∙ placed c.before) refl
 
 returns-in_default : tie.Need-returns-in_default
-returns-in_default c = none_chosen shown_table _ _ (placed c.before) c.in_default.rest
+returns-in_default c = none_chosen shown_table _ _ (placed c.before) c.in_default.in_default-own.rest
 
 pub shown_spec : {M : Type 1} → statement M
 shown_spec =
     tie.close
-    (tie.spec slice_aggregate_place place-requires returns-in-0 returns-in-1 returns-in-2 returns-in-3 returns-in_default)
+    (tie.spec place-requires returns-in-0 returns-in-1 returns-in-2 returns-in-3 returns-in_default)

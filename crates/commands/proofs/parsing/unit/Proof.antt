@@ -23,11 +23,8 @@ unless_faulty-requires c κs = search rules
 
 returns : tie.Need-returns
 returns c =
-    let unit = c.before in
-    let counted = unit.before in
-    let said = counted.before in
     c.unless_faulty.ensures
-    ∙ ap₂ unless counted.are_words.ensures (unit.unit_said.ensures ∙ ap unit_said (said.whole-said.ensures ∙ ap number_of said.word_at.ensures))
+    ∙ ap₂ unless c.are_words.ensures (c.unit_said.ensures ∙ ap unit_said (c.whole-said.ensures ∙ ap number_of c.word_at.ensures))
 
 pub unit_spec : {M : Type 1} → statement M
 unit_spec =

@@ -7,8 +7,8 @@ use mathlib.Core.Bool.{true, false}
 use lib.Dec.{T}
 use lib.IntN.{ℤ, pos, negsuc, nat_abs}
 use lib.Signed.{lt_z, non_neg}
-use mir.Syntax.{w32, w64}
-use mir.Val.{Fits, to_z, of_z}
+use mir.Syntax.{w64}
+use mir.Val.{to_z, of_z}
 use mir.Facts.{to_z-of_z}
 use Rattle.commands.specs.declared.Command.TheVariants.{Wrong, SetUnit}
 use Rattle.commands.specs.declared.Fault.TheVariants.{BeyondUnsigned}

@@ -22,9 +22,8 @@ enum_told-in-TooLarge c = search rules
 
 returns-in-Is : tie.Need-returns-in-Is
 returns-in-Is c =
-    let said = c.said-1 in
-    let fits : SFits w64 said.given.0.0 = search rules in
-    c.unit_is.ensures ∙ ap unit_is (to_z-of_z fits) ∙ sym (ap unit_said said.given.1)
+    let fits : SFits w64 c.in-Is.n = search rules in
+    c.unit_is.ensures ∙ ap unit_is (to_z-of_z fits) ∙ sym (ap unit_said c.in-Is.is)
 
 returns-in-NotDecimal : tie.Need-returns-in-NotDecimal
 returns-in-NotDecimal c = sym (ap unit_said c.in-NotDecimal.is)

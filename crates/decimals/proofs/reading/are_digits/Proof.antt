@@ -1,6 +1,5 @@
 -- `decimals::reading::are_digits` meets its contract. What was passed was digits, so all is decided by the bytes from the present position on.
 use borrow.Author.Rules.{rules}
-use borrow.Author.Tests.{not-true, not-false}
 use Prim.Native.Nat.{◌-◌}
 use mathlib.Core.Path.{◌≡◌, sym, ◌∙◌}
 use lib.ListN.{length, drop}
@@ -27,7 +26,7 @@ is_digit-requires c κs = search rules
 returns-then-not-is_digit : tie.Need-returns-then-not-is_digit invariant-loop-i decreases-loop-i
 returns-then-not-is_digit c =
     let here = c.before.before.before.before in
-    sym (here.loop-i.invariant ∙ digits_stop _ _ c.loop-i-test.true (sym c.is_digit.ensures ∙ not-true _ c.if-not-is_digit.true))
+    sym (here.loop-i.invariant ∙ digits_stop _ _ c.loop-i-test.true (sym c.is_digit.ensures ∙ c.if-not-is_digit.true))
 
 overflow_add-i : tie.Need-overflow_add-i invariant-loop-i decreases-loop-i
 overflow_add-i c = search rules
@@ -38,7 +37,7 @@ loop-i-smaller c = search rules
 loop-i-preserved : tie.Need-loop-i-preserved invariant-loop-i decreases-loop-i
 loop-i-preserved c =
     let here = c.before.before.before.before in
-    here.loop-i.invariant ∙ digits_on _ _ c.loop-i-test.true (sym c.is_digit.ensures ∙ not-false _ c.if-not-is_digit.false)
+    here.loop-i.invariant ∙ digits_on _ _ c.loop-i-test.true (sym c.is_digit.ensures ∙ c.if-not-is_digit.false)
 
 returns : tie.Need-returns invariant-loop-i decreases-loop-i
 returns c = sym (c.loop-i.invariant ∙ digits_out _ _ c.loop-i-test.false)

@@ -6,6 +6,7 @@ use Prim.Native.Nat.{ℕ}
 use mathlib.Core.List.{List}
 use lib.ListN.{drop}
 use lib.IntN.{pos}
+use mir.Syntax.{w64}
 use mir.Facts.{to_z-of_z}
 use Rattle.decimals.specs.declared.reading.Magnitude.{Magnitude}
 use Rattle.decimals.specs.declared.reading.Number.TheVariants.{Is}
@@ -43,7 +44,7 @@ enum_known-n c = search rules
 
 negated-requires : tie.Need-negated-requires
 negated-requires c κs =
-    let read = c.before.before.before in
+    let read = c.before in
     held 9223372036854775808 (digits_of (drop 1 (after_sign read))) _ (sym c.in-Is.is ∙ read.digits.ensures)
 
 enum_told-1 : tie.Need-enum_told-1
@@ -60,7 +61,7 @@ enum_known-n-in-Is-digits-2 c = search rules
 
 overflow_cast-result : tie.Need-overflow_cast-result
 overflow_cast-result c =
-    let read = c.before.before.before in
+    let read = c.before in
     let small = held 9223372036854775807 (digits_of (drop 0 (with_none read))) _ (sym c.in-Is-digits.is ∙ read.digits-else-text-eq45.ensures) in
     record { sfits = lt_of_le_of_lt small (omega arith) }
 
@@ -72,22 +73,22 @@ enum_told-in-TooLarge-digits c = search rules
 
 returns-in-Is : tie.Need-returns-in-Is
 returns-in-Is c =
-    ap Is (to_z-of_z (record { sfits = c.negated.type_inv }) ∙ c.negated.ensures) ∙ negative c.before.before.before.before c.in-Is.is
+    ap Is (to_z-of_z {w = w64} (record { sfits = c.negated.type_inv }) ∙ c.negated.ensures) ∙ negative c.before.before c.in-Is.is
 
 returns-in-NotDecimal : tie.Need-returns-in-NotDecimal
-returns-in-NotDecimal c = negative c.before.before c.in-NotDecimal.is
+returns-in-NotDecimal c = negative c.before c.in-NotDecimal.is
 
 returns-in-TooLarge : tie.Need-returns-in-TooLarge
-returns-in-TooLarge c = negative c.before.before c.in-TooLarge.is
+returns-in-TooLarge c = negative c.before c.in-TooLarge.is
 
 returns-in-Is-digits : tie.Need-returns-in-Is-digits
-returns-in-Is-digits c = ap Is (to_z-of_z (overflow_cast-result c)) ∙ positive c.before.before.before c.in-Is-digits.is
+returns-in-Is-digits c = ap Is (to_z-of_z (overflow_cast-result c)) ∙ positive c.before c.in-Is-digits.is
 
 returns-in-NotDecimal-digits : tie.Need-returns-in-NotDecimal-digits
-returns-in-NotDecimal-digits c = positive c.before.before c.in-NotDecimal-digits.is
+returns-in-NotDecimal-digits c = positive c.before c.in-NotDecimal-digits.is
 
 returns-in-TooLarge-digits : tie.Need-returns-in-TooLarge-digits
-returns-in-TooLarge-digits c = positive c.before.before c.in-TooLarge-digits.is
+returns-in-TooLarge-digits c = positive c.before c.in-TooLarge-digits.is
 
 pub whole_spec : {M : Type 1} → statement M
 whole_spec =

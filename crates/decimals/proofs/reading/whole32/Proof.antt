@@ -32,13 +32,13 @@ enum_told-in-TooLarge c = search rules
 returns-in-Is : tie.Need-returns-in-Is
 returns-in-Is c =
     let fits : SFits w64 c.in-Is.n = search rules in
-    c.narrow.ensures ∙ ap fit32 (to_z-of_z fits) ∙ same c.before.before.before.before c.in-Is.is
+    c.narrow.ensures ∙ ap fit32 (to_z-of_z fits) ∙ same c.before.before c.in-Is.is
 
 returns-in-NotDecimal : tie.Need-returns-in-NotDecimal
-returns-in-NotDecimal c = same c.before.before c.in-NotDecimal.is
+returns-in-NotDecimal c = same c.before c.in-NotDecimal.is
 
 returns-in-TooLarge : tie.Need-returns-in-TooLarge
-returns-in-TooLarge c = same c.before.before c.in-TooLarge.is
+returns-in-TooLarge c = same c.before c.in-TooLarge.is
 
 pub whole32_spec : {M : Type 1} → statement M
 whole32_spec =

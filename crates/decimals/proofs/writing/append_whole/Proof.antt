@@ -39,9 +39,9 @@ returns-then-n-lt0 c =
     let r = c.append_natural in
     let size = c.magnitude.ensures ∙ ap nat_abs (itself start) in
     let minus = subst (λ (z : ℤ). lt_z z (pos 0) ≡ true) (itself start) c.if-n-lt0.true in
-    subst (λ (l : List ℕ). Appended start.args.into.now start.args.held l r.new.0 r.result)
+    subst (λ (l : List ℕ). Appended start.args.into.now start.args.held l r.new.into r.result)
     (ap (λ (k : ℕ). 45 ∷ decimal_of k) size ∙ negative_text n minus)
-    (both {c = r.new.0} {s = r.result} {n = decimal_of c.magnitude.result}
+    (both {c = r.new.into} {s = r.result} {n = decimal_of c.magnitude.result}
     c.append-signed.ensures r.ensures)
 
 magnitude-requires-2 : tie.Need-magnitude-requires-2
@@ -60,7 +60,7 @@ returns c =
     let r = c.append_natural-2 in
     let size = c.magnitude-2.ensures ∙ ap nat_abs (itself start) in
     let plain = subst (λ (z : ℤ). lt_z z (pos 0) ≡ false) (itself start) c.if-n-lt0.false in
-    subst (λ (l : List ℕ). Appended start.args.into.now start.args.held l r.new.0 r.result)
+    subst (λ (l : List ℕ). Appended start.args.into.now start.args.held l r.new.into r.result)
     (ap decimal_of size ∙ positive_text n plain)
     r.ensures
 
@@ -68,7 +68,6 @@ pub append_whole_spec : {M : Type 1} → statement M
 append_whole_spec =
     tie.close
     (tie.spec
-    slice_aggregate_append
     append-signed-requires
     magnitude-requires
     append_natural-requires

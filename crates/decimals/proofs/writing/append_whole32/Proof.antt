@@ -17,7 +17,7 @@ returns : tie.Need-returns
 returns c =
     let s = c.before.before.before.before.before in
     let r = c.append_whole in
-    subst (λ (n : ℤ). Appended s.args.into.now s.args.held (text_of n) r.new.0 r.result) (to_z-of_z (wide s) ∙ to_z-of_z s.ranges.n) r.ensures
+    subst (λ (n : ℤ). Appended s.args.into.now s.args.held (text_of n) r.new.into r.result) (to_z-of_z (wide s) ∙ to_z-of_z s.ranges.n) r.ensures
 
 overflow_cast-n : tie.Need-overflow_cast-n
 overflow_cast-n c = wide c.before.before

@@ -9,8 +9,8 @@ use mir.Val.{to_z, of_z}
 use Rattle.integers.specs.Within.{Within}
 use Rattle.integers.specs.Sizes.{known, code}
 use Rattle.floats.specs.Whole.{Whole, exactly_whole, whole_product, whole_sum, settled}
-use Rattle.floats.specs.Exactly.{zero_in_code}
-use Rattle.floats.specs.Cast.{may_cast, cast_is}
+use Rattle.floats.proofs.Exactly.{zero_in_code}
+use Rattle.floats.proofs.Cast.{may_cast, cast_is}
 use Rattle.drive.proofs.horner.numerator.Statement.{statement}
 use Rattle.drive.proofs.horner.numerator.Tie as tie
 

@@ -6,7 +6,7 @@ use lib.Ieee.{binary64, of_bits}
 use lib.Ieee.Bits.{of_bits-fits}
 use mir.Facts.{to_z-of_z}
 use Rattle.floats.specs.Promise.{Exactly}
-use Rattle.floats.specs.Exactly.{zero_in_code}
+use Rattle.floats.proofs.Exactly.{zero_in_code}
 use Rattle.table.specs.Table.{table}
 use Rattle.drive.specs.Drive.{told_of, Driving}
 use Rattle.exports.specs.Cases.{dwells, moves}

@@ -51,20 +51,19 @@ said c = c.whole32.ensures ∙ ap number32_of c.part.ensures
 
 returns-in-Is : tie.Need-returns-in-Is
 returns-in-Is c =
-    let at = c.before.before.before in
-    let s = at.before.before.before.before.before.before.before in
+    let at = c.before in
     let fits : SFits w32 c.in-Is.n = search rules in
     a_word_says (word at.before.before).first (sym c.in-Is.is ∙ said at)
-    ∙ sym (ap (λ (n : ℤ). numbers_next s.args.line.now (Is n at.in-At.end)) (to_z-of_z fits))
+    ∙ sym (ap (λ (n : ℤ). numbers_next c.args.line.now (Is n c.in-At.end)) (to_z-of_z fits))
 
 returns-in-NotDecimal : tie.Need-returns-in-NotDecimal
 returns-in-NotDecimal c =
-    let at = c.before.before in
+    let at = c.before in
     a_word_says (word at.before.before).first (sym c.in-NotDecimal.is ∙ said at)
 
 returns-in-TooLarge : tie.Need-returns-in-TooLarge
 returns-in-TooLarge c =
-    let at = c.before.before in
+    let at = c.before in
     a_word_says (word at.before.before).first (sym c.in-TooLarge.is ∙ said at)
 
 pub next_number_spec : {M : Type 1} → statement M

@@ -45,8 +45,7 @@ shape_of-list-in_default c = c.loop-n.invariant.as_long
 
 returns-in_default : tie.Need-returns-in_default invariant-loop-n decreases-loop-n
 returns-in_default c =
-    let next = c.before.before in
-    all_placed _ _ _ _ _ next.loop-n.invariant (next.next_number.ensures ∙ ap (numbers_next _) c.in_default.is)
+    all_placed _ _ _ _ _ c.loop-n.invariant (c.next_number.ensures ∙ ap (numbers_next _) c.in_default.is)
 
 offset_bounds-list-n : tie.Need-offset_bounds-list-n invariant-loop-n decreases-loop-n
 offset_bounds-list-n c = let p = c.loop-n.invariant in search rules
@@ -62,9 +61,8 @@ loop-n-smaller c = let p = c.loop-n.invariant in omega arith
 
 loop-n-preserved : tie.Need-loop-n-preserved invariant-loop-n decreases-loop-n
 loop-n-preserved c =
-    let at = c.before.before.before.before.before in
-    let a = at.args in
-    let l = at.loop-n in
+    let a = c.args in
+    let l = c.loop-n in
     let numbers = numbers_of (drop 1 (words_of a.line.now)) in
     let end = c.in-Is.end in
     let n = c.in-Is.number in

@@ -27,17 +27,15 @@ shape_of-into c = search rules
 returns : tie.Need-returns
 returns c =
     let r = c.append_whole32 in
-    let spaced = c.before.before.before.before.before.before in
-    let s = spaced.before.before.before.before.before in
-    subst (λ (l : List ℕ). Appended s.args.into.now s.args.held l r.new.0 r.result)
-    (ap₂ (λ (space : List ℕ) (z : ℤ). space ++ text_of z) spaced.part.ensures (to_z-of_z s.ranges.number) ∙ entry_is s.args.i s.args.number)
-    (both spaced.append-n.ensures r.ensures)
+    let s = c.args in
+    subst (λ (l : List ℕ). Appended s.into.now s.held l r.new.into r.result)
+    (ap₂ (λ (space : List ℕ) (z : ℤ). space ++ text_of z) c.part.ensures (to_z-of_z c.ranges.number) ∙ entry_is s.i s.number)
+    (both c.append-n.ensures r.ensures)
 
 pub append_entry_spec : {M : Type 1} → statement M
 append_entry_spec =
     tie.close
     (tie.spec
-    slice_aggregate_part
     part-requires
     append-n-requires
     append_whole32-requires

@@ -49,15 +49,14 @@ loop-i-smaller c = search rules
 loop-i-preserved : tie.Need-loop-i-preserved invariant-loop-i decreases-loop-i
 loop-i-preserved c =
     let r = c.append_entry-n in
-    let at = c.before.before.before.before.before.before in
-    let a = at.args in
-    let l = at.loop-i in
+    let a = c.args in
+    let l = c.loop-i in
     let list = a.list.now in
     let fits : SFits w32 (get_or list l.i (pos 0)) = record { sfits = c.append_entry-arg-in-loop-i-1.given } in (
       search rules,
       omega arith,
       rw add-one
-          (subst (λ (text : List ℕ). Appended a.into.now a.held text r.new.0 r.result)
+          (subst (λ (text : List ℕ). Appended a.into.now a.held text r.new.into r.result)
           (ap (λ (n : ℤ). row_of (take l.i list) ++ entry_of l.i n) (to_z-of_z fits) ∙ row_on list l.i (omega arith))
           (both l.invariant.2 r.ensures)),
     )
@@ -69,7 +68,7 @@ returns : tie.Need-returns invariant-loop-i decreases-loop-i
 returns c =
     let l = c.loop-i in
     let a = c.args in
-    subst (λ (ns : List ℤ). Appended a.into.now a.held (row_of ns) l.into-1 l.n) (take_all l.i a.list.now c.loop-i-test.false) l.invariant.2
+    subst (λ (ns : List ℤ). Appended a.into.now a.held (row_of ns) l.into l.n) (take_all l.i a.list.now c.loop-i-test.false) l.invariant.2
 
 pub append_row_spec : {M : Type 1} → statement M
 append_row_spec =

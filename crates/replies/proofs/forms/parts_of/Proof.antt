@@ -81,8 +81,7 @@ returns-in-Wrong c = known line_of c.in-Wrong.is c.parts_of_fault.ensures
 returns-in-Done : tie.Need-returns-in-Done
 unfolding filled line_of
 returns-in-Done c =
-    let given = c.reply-in-Done-1.given in
-    known line_of given.1 (said_unless given.0.0 c.unless_refused.ensures (record { said = ap written c.with_naturals.ensures }))
+    known line_of c.in-Done.is (said_unless c.in-Done.r c.unless_refused.ensures (record { said = ap written c.with_naturals.ensures }))
 
 returns-in-Count : tie.Need-returns-in-Count
 unfolding filled line_of
@@ -95,18 +94,15 @@ returns-in-Judged c = known line_of c.in-Judged.is c.parts_of_verdict.ensures
 returns-in-Valued : tie.Need-returns-in-Valued
 unfolding filled line_of
 returns-in-Valued c =
-    let v = c.before.before.before in
-    let given = v.reply-in-Valued-1.given in
-    let fits : SFits w32 given.0.0.value = record { sfits = v.struct_told-1.given.1.0.1 } in
+    let fits : SFits w32 c.in-Valued.v.value = search rules in
     let number = c.whole32.ensures ∙ ap whole_as (to_z-of_z fits) in
     let parts = c.with_number.ensures ∙ ap (λ (first : Signed). numbers 17 first (natural_as 0) (natural_as 0)) number in
-    known line_of given.1 (said_unless given.0.0.refusal c.unless_refused-in-Valued.ensures (record { said = ap written parts }))
+    known line_of c.in-Valued.is (said_unless c.in-Valued.v.refusal c.unless_refused-in-Valued.ensures (record { said = ap written parts }))
 
 returns-in-Driven : tie.Need-returns-in-Driven
 unfolding line_of
 returns-in-Driven c =
-    let given = c.reply-in-Driven-1.given in
-    known line_of given.1 (said_unless given.0.0.refusal c.unless_refused-in-Driven.ensures c.parts_of_told.ensures)
+    known line_of c.in-Driven.is (said_unless c.in-Driven.d.refusal c.unless_refused-in-Driven.ensures c.parts_of_told.ensures)
 
 returns-in-SlopeUnit : tie.Need-returns-in-SlopeUnit
 unfolding filled line_of

@@ -38,12 +38,9 @@ returns-in-Dwell c = says told_line (c.with_number.ensures ∙ ap (λ (level : S
 returns-in-Move : tie.Need-returns-in-Move
 unfolding filled
 returns-in-Move c =
-    let third = c.before in
-    let second = third.before in
-    let first = second.before in
     says told_line
-    (c.with_numbers.ensures ∙ ap (λ (left : Signed). numbers 19 left second.float-in-Move-2.result third.float-in-Move-3.result) first.float-in-Move.ensures ∙ ap₂ (numbers 19 _) second.float-in-Move-2.ensures third.float-in-Move-3.ensures)
-    first.in-Move.is
+    (c.with_numbers.ensures ∙ ap (λ (left : Signed). numbers 19 left c.float-in-Move-2.result c.float-in-Move-3.result) c.float-in-Move.ensures ∙ ap₂ (numbers 19 _) c.float-in-Move-2.ensures c.float-in-Move-3.ensures)
+    c.in-Move.is
     refl
 
 pub parts_of_told_spec : {M : Type 1} → statement M

@@ -31,16 +31,10 @@ shape_of-into c = search rules
 returns : tie.Need-returns
 unfolding texts_of
 returns c =
-    let put = c.before.before in
-    let ending = put.before in
-    let filling = ending.before.before.before.before.before in
-    let cause = filling.before in
-    let form = cause.before.before in
-    let parts = form.before.before.before.before.before in
-    let a = parts.args in
-    subst (λ (l : List ℕ). Appended a.into.now a.held l put.append.new.0 put.append.result)
-    (put_together _ _ parts.parts_of-parts.ensures refl refl form.entry.ensures cause.entry-2.ensures ending.part.ensures)
-    (both filling.fill-n.ensures put.append.ensures)
+    let a = c.args in
+    subst (λ (l : List ℕ). Appended a.into.now a.held l c.append.new.into c.append.result)
+    (put_together _ _ c.parts_of-parts.ensures refl refl c.entry.ensures c.entry-2.ensures c.part.ensures)
+    (both c.fill-n.ensures c.append.ensures)
 
 pub append_reply_spec : {M : Type 1} → statement M
 append_reply_spec =
@@ -50,7 +44,6 @@ append_reply_spec =
     entry-requires
     entry-requires-2
     fill-n-requires
-    slice_aggregate_part
     part-requires
     append-requires
     shape_of-into

@@ -7,7 +7,7 @@ use Rattle.std.specs.Float.Ieee.{prec, in_float, of_int}
 use Rattle.std.proofs.Math.Facts.{and_yes}
 use Rattle.integers.specs.Sizes.{Known, Code, plain, size, sound, sized, plain_is}
 use Rattle.floats.specs.Promise.{Exactly}
-use Rattle.floats.specs.Exactly.{castable, cast_exactly}
+use Rattle.floats.proofs.Exactly.{castable, cast_exactly}
 
 module _ (f : Format) (Γ : List Known) {x : ℤ} (c : Code Γ x) (t : T (sound c && leb (size c) (2 ^ prec f))) where
   pub may_cast : T (in_float f x)
