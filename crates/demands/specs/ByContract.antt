@@ -3,7 +3,7 @@
 -- function requires, where it requires anything.
 use Rattle.std.specs.Prelude.{◌≡◌, refl, Bool, List, [], ℕ, ℤ, Float}
 use contract.Lifetimes.{Lfts}
-use Rattle.std.specs.Borrow.{Bor}
+use Rattle.std.specs.Borrow.{Bor, MutBor}
 use Rattle.rules.specs.declared.Refusal.{Refusal}
 use Rattle.piece.specs.declared.Verdict.{Verdict}
 use Rattle.table.specs.declared.changed.Change.{Change}
@@ -38,6 +38,10 @@ use Rattle.exports.proofs.negwafir_change_point.Reads as negwafir_change_point
 abbrev pub list : List ℤ → Bor (List ℤ)
 list xs = record { ref_ptr = (0, 0); now = xs }
 
+-- So is what is lent to be changed, which a contract reads by what it holds at the call and when the call returns. The name by which a proof follows it is nothing that a contract here speaks of.
+abbrev pub to_change : {A : Type 0} → A → MutBor A
+to_change x = record { ref_ptr = (0, 0); ghost_name = 0; now = x }
+
 abbrev pub three : Lfts 3
 three = ([], ([], ([], tt)))
 
@@ -52,12 +56,19 @@ lists t a = (list t.knots, (list t.values, (list t.slopes, a)))
 abbrev pub whole : {A : Type 0} → Table → A → ℕ × Lent A
 whole t a = (t.s, lists t a)
 
--- the table's three, of which the slopes are now these
-abbrev lists_with : {A : Type 0} → Table → List ℤ → A → Lent A
-lists_with t slopes a = (list t.knots, (list t.values, (list slopes, a)))
+-- the table's three, of which the slopes are lent to be changed and are now these
+abbrev pub lists_with : {A : Type 0} → Table → List ℤ → A → Bor (List ℤ) × (Bor (List ℤ) × (MutBor (List ℤ) × A))
+lists_with t slopes a = (list t.knots, (list t.values, (to_change slopes, a)))
 
-abbrev whole_with : {A : Type 0} → Table → List ℤ → A → ℕ × Lent A
+abbrev pub whole_with : {A : Type 0} → Table → List ℤ → A → ℕ × (Bor (List ℤ) × (Bor (List ℤ) × (MutBor (List ℤ) × A)))
 whole_with t slopes a = (t.s, lists_with t slopes a)
+
+-- the table's three, all of which are lent to be changed
+abbrev pub lists_to_change : {A : Type 0} → Table → A → MutBor (List ℤ) × (MutBor (List ℤ) × (MutBor (List ℤ) × A))
+lists_to_change t a = (to_change t.knots, (to_change t.values, (to_change t.slopes, a)))
+
+abbrev pub whole_to_change : {A : Type 0} → Table → A → ℕ × (MutBor (List ℤ) × (MutBor (List ℤ) × (MutBor (List ℤ) × A)))
+whole_to_change t a = (t.s, lists_to_change t a)
 
 abbrev pub refusal : (number place : ℕ) → Refusal
 refusal number place = record { number = number; place = place }
@@ -101,18 +112,18 @@ module _ (t : Table) where
   ChecksC number place = negwafir_check.Post three (whole t tt) (refusal number place) (whole t tt)
 
   abbrev pub Builds : (number place : ℕ) (after : List ℤ) → Type 0
-  Builds number place after = slopes-build.Post three (whole t tt) (refusal number place) (whole_with t after tt)
+  Builds number place after = slopes-build.Post three (whole_with t t.slopes tt) (refusal number place) (whole_with t after tt)
 
   abbrev pub BuildsC : (number place : ℕ) (after : List ℤ) → Type 0
-  BuildsC number place after = negwafir_build.Post three (whole t tt) (refusal number place) (whole_with t after tt)
+  BuildsC number place after = negwafir_build.Post three (whole_with t t.slopes tt) (refusal number place) (whole_with t after tt)
 
   -- the slopes of the points from one number up to another, in 1/U
   module _ (U : ℤ) (from to : ℕ) where
     abbrev pub AskedRenewal : Type 0
-    AskedRenewal = slopes-renew.Pre three (U, lists t (from, (to, tt)))
+    AskedRenewal = slopes-renew.Pre three (U, lists_with t t.slopes (from, (to, tt)))
 
     abbrev pub RenewsTo : (after : List ℤ) → Type 0
-    RenewsTo after = slopes-renew.Post three (U, lists t (from, (to, tt))) tt (U, lists_with t after (from, (to, tt)))
+    RenewsTo after = slopes-renew.Post three (U, lists_with t t.slopes (from, (to, tt))) tt (U, lists_with t after (from, (to, tt)))
 
   module _ (c : Change) where
     abbrev pub ChangedPoints : (number place : ℕ) → Type 0
@@ -122,10 +133,10 @@ module _ (t : Table) where
     ChangedPointsC number place = negwafir_changed_points.Post three (whole t (c, tt)) (refusal number place) (whole t (c, tt))
 
     abbrev pub Changes : (number place : ℕ) (after : Table) → Type 0
-    Changes number place after = change-point.Post three (whole t (c, tt)) (refusal number place) (t.s, lists after (c, tt))
+    Changes number place after = change-point.Post three (whole_to_change t (c, tt)) (refusal number place) (t.s, lists_to_change after (c, tt))
 
     abbrev pub ChangesC : (number place : ℕ) (after : Table) → Type 0
-    ChangesC number place after = negwafir_change_point.Post three (whole t (c, tt)) (refusal number place) (t.s, lists after (c, tt))
+    ChangesC number place after = negwafir_change_point.Post three (whole_to_change t (c, tt)) (refusal number place) (t.s, lists_to_change after (c, tt))
 
 module _ (xs : List ℤ) (i : ℕ) where
   abbrev pub AskedStep : Type 0

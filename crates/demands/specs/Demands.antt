@@ -86,16 +86,16 @@ Lists (float-answer t x) = Unit
 Lists (changed_points c t) = Unit
 
 -- as they are at the call
-abbrev pub lent : (call : Call) → Lists call
-lent (build t) = t.slopes
-lent (point made c t) = t
-lent (judge s h z m n) = tt
-lent (points t) = tt
-lent (check t) = tt
-lent (locate t x) = tt
-lent (evaluate t x) = tt
-lent (float-answer t x) = tt
-lent (changed_points c t) = tt
+abbrev pub to_change : (call : Call) → Lists call
+to_change (build t) = t.slopes
+to_change (point made c t) = t
+to_change (judge s h z m n) = tt
+to_change (points t) = tt
+to_change (check t) = tt
+to_change (locate t x) = tt
+to_change (evaluate t x) = tt
+to_change (float-answer t x) = tt
+to_change (changed_points c t) = tt
 
 -- What comes out: the number of the refusal, 0 for none, its place, the answer, and these lists when the call returns.
 pub record Outcome (call : Call) : Type 0 where
@@ -202,7 +202,7 @@ pub record Demand1 (I : Implementation) : Type 0 where
   pub refused_exactly_then : {call : Call} {o : Outcome call} → I.May call o → (c q : ℕ) → 0 < c → ((o.number ≡ c) × (o.place ≡ q)) ↔ First (CauseOf call) (order_of call) c q
   pub done_at_place_0 : {call : Call} {o : Outcome call} → I.May call o → o.number ≡ 0 → o.place ≡ 0
   -- "and changes no list we lent you."
-  pub changes_no_list : {call : Call} {o : Outcome call} → I.May call o → (o.number ≡ 0 → ⊥) → o.lists ≡ lent call
+  pub changes_no_list : {call : Call} {o : Outcome call} → I.May call o → (o.number ≡ 0 → ⊥) → o.lists ≡ to_change call
 
 -- ======== The second demand
 

@@ -24,7 +24,7 @@ use Rattle.replies.specs.declared.Reply.TheVariants.{Done}
 use Rattle.replies.specs.Replies.{line_of}
 use Rattle.position.specs.declared.Sought.TheVariants.{On}
 use Rattle.position.specs.Spot.{on}
-use Rattle.demands.specs.ByContract.{list, SaysMonotone, HasCoefficients, Steps, RenewsTo, Seeks}
+use Rattle.demands.specs.ByContract.{to_change, list, SaysMonotone, HasCoefficients, Steps, RenewsTo, Seeks}
 use Rattle.demands.specs.Programs.{two, four}
 use Rattle.demands.specs.Refuting.{within, in_piece}
 use Rattle.demands.specs.SixteenGiven.{eighth, count}
@@ -106,28 +106,28 @@ pub record WorkedBelow : Type 0 where
   pub count_of_words : words-count.Post ([], tt) (bytes words, (0, tt)) 2 (bytes words, (0, tt))
   pub part : words-part.Post ([], tt) (bytes words, (0, (2, tt))) (bytes (97 ∷ 98 ∷ [])) (bytes words, (0, (2, tt)))
   pub content : words-content.Post ([], tt) (bytes (97 ∷ 98 ∷ 13 ∷ []), tt) (bytes (97 ∷ 98 ∷ [])) (bytes (97 ∷ 98 ∷ 13 ∷ []), tt)
-  pub append : words-append.Post ([], ([], tt)) (bytes buffer, (1, (bytes (98 ∷ []), tt))) 2 (bytes (61 ∷ 98 ∷ 0 ∷ 0 ∷ []), (1, (bytes (98 ∷ []), tt)))
+  pub append : words-append.Post ([], ([], tt)) (to_change buffer, (1, (bytes (98 ∷ []), tt))) 2 (to_change (61 ∷ 98 ∷ 0 ∷ 0 ∷ []), (1, (bytes (98 ∷ []), tt)))
   -- `-7` is −7, and is written so
   pub whole : decimals-whole.Post ([], tt) (bytes minus_seven, tt) (Number.TheVariants.Is (negsuc 6)) (bytes minus_seven, tt)
   pub whole32 : decimals-whole32.Post ([], tt) (bytes minus_seven, tt) (Number32.TheVariants.Is (negsuc 6)) (bytes minus_seven, tt)
-  pub append_natural : decimals-append_natural.Post ([], tt) (bytes buffer, (1, (7, tt))) 2 (bytes (61 ∷ 55 ∷ 0 ∷ 0 ∷ []), (1, (7, tt)))
-  pub append_whole : decimals-append_whole.Post ([], tt) (bytes buffer, (1, (negsuc 6, tt))) 3 (bytes (61 ∷ 45 ∷ 55 ∷ 0 ∷ []), (1, (negsuc 6, tt)))
-  pub append_whole32 : decimals-append_whole32.Post ([], tt) (bytes buffer, (1, (negsuc 6, tt))) 3 (bytes (61 ∷ 45 ∷ 55 ∷ 0 ∷ []), (1, (negsuc 6, tt)))
+  pub append_natural : decimals-append_natural.Post ([], tt) (to_change buffer, (1, (7, tt))) 2 (to_change (61 ∷ 55 ∷ 0 ∷ 0 ∷ []), (1, (7, tt)))
+  pub append_whole : decimals-append_whole.Post ([], tt) (to_change buffer, (1, (negsuc 6, tt))) 3 (to_change (61 ∷ 45 ∷ 55 ∷ 0 ∷ []), (1, (negsuc 6, tt)))
+  pub append_whole32 : decimals-append_whole32.Post ([], tt) (to_change buffer, (1, (negsuc 6, tt))) 3 (to_change (61 ∷ 45 ∷ 55 ∷ 0 ∷ []), (1, (negsuc 6, tt)))
   -- 7, −2⁶³ and −2³¹ as they are written; `$,####` with the text `a` and the numbers 7, −0 and 3 is `a,7-03`; of `a`, LF, `b` the second entry is `b`
   pub natural_as : answers-natural.Post tt (7, tt) seven (7, tt)
   pub whole_as : answers-whole.Post tt (negsuc 9223372036854775807, tt) (record { negative = true; size = 9223372036854775808 }) (negsuc 9223372036854775807, tt)
   pub whole32_as : answers-whole32.Post tt (negsuc 2147483647, tt) (record { negative = true; size = 2147483648 }) (negsuc 2147483647, tt)
-  pub fill : answers-fill.Post ([], ([], ([], tt))) (bytes (61 ∷ 0 ∷ 0 ∷ 0 ∷ 0 ∷ 0 ∷ 0 ∷ 0 ∷ []), (1, (bytes template, (bytes (97 ∷ []), (seven, (minus_zero, (three, tt))))))) 7
-      (bytes (61 ∷ 97 ∷ 44 ∷ 55 ∷ 45 ∷ 48 ∷ 51 ∷ 0 ∷ []), (1, (bytes template, (bytes (97 ∷ []), (seven, (minus_zero, (three, tt)))))))
+  pub fill : answers-fill.Post ([], ([], ([], tt))) (to_change (61 ∷ 0 ∷ 0 ∷ 0 ∷ 0 ∷ 0 ∷ 0 ∷ 0 ∷ []), (1, (bytes template, (bytes (97 ∷ []), (seven, (minus_zero, (three, tt))))))) 7
+      (to_change (61 ∷ 97 ∷ 44 ∷ 55 ∷ 45 ∷ 48 ∷ 51 ∷ 0 ∷ []), (1, (bytes template, (bytes (97 ∷ []), (seven, (minus_zero, (three, tt)))))))
   pub entry : answers-entry.Post ([], tt) (bytes (97 ∷ 10 ∷ 98 ∷ []), (1, tt)) (bytes (98 ∷ [])) (bytes (97 ∷ 10 ∷ 98 ∷ []), (1, tt))
   -- `b`, LF ends a line that begins with what is held; `k 5 -7` puts 5 and −7 in front of a list, and the two are written so
-  pub take : lines-take.Post ([], ([], tt)) (bytes buffer, (1, (bytes (98 ∷ 10 ∷ []), (0, tt)))) (record { held = 2; next = 2; whole = true }) (bytes (61 ∷ 98 ∷ 0 ∷ 0 ∷ []), (1, (bytes (98 ∷ 10 ∷ []), (0, tt))))
-  pub set : lists-set.Post ([], ([], tt)) (list (pos 0 ∷ pos 0 ∷ pos 1 ∷ []), (bytes command, tt)) 2 (list (pos 5 ∷ negsuc 6 ∷ pos 1 ∷ []), (bytes command, tt))
-  pub append_row : lists-append_row.Post ([], ([], tt)) (bytes buffer, (0, (list (pos 5 ∷ negsuc 6 ∷ []), tt))) 4 (bytes (53 ∷ 32 ∷ 45 ∷ 55 ∷ []), (0, (list (pos 5 ∷ negsuc 6 ∷ []), tt)))
+  pub take : lines-take.Post ([], ([], tt)) (to_change buffer, (1, (bytes (98 ∷ 10 ∷ []), (0, tt)))) (record { held = 2; next = 2; whole = true }) (to_change (61 ∷ 98 ∷ 0 ∷ 0 ∷ []), (1, (bytes (98 ∷ 10 ∷ []), (0, tt))))
+  pub set : lists-set.Post ([], ([], tt)) (to_change (pos 0 ∷ pos 0 ∷ pos 1 ∷ []), (bytes command, tt)) 2 (to_change (pos 5 ∷ negsuc 6 ∷ pos 1 ∷ []), (bytes command, tt))
+  pub append_row : lists-append_row.Post ([], ([], tt)) (to_change buffer, (0, (list (pos 5 ∷ negsuc 6 ∷ []), tt))) 4 (to_change (53 ∷ 32 ∷ 45 ∷ 55 ∷ []), (0, (list (pos 5 ∷ negsuc 6 ∷ []), tt)))
   -- `at`, tab, `1`, space asks for position 1
   pub parse : commands-parse.Post ([], tt) (bytes at_one, tt) (Command.TheVariants.At (pos 1)) (bytes at_one, tt)
   -- `ok`, LF put behind `=`
-  pub append_reply : replies-append_reply.Post ([], tt) (bytes buffer, (1, (Done (record { number = 0; place = 0 }), tt))) 4 (bytes (61 ∷ 111 ∷ 107 ∷ 10 ∷ []), (1, (Done (record { number = 0; place = 0 }), tt)))
+  pub append_reply : replies-append_reply.Post ([], tt) (to_change buffer, (1, (Done (record { number = 0; place = 0 }), tt))) 4 (to_change (61 ∷ 111 ∷ 107 ∷ 10 ∷ []), (1, (Done (record { number = 0; place = 0 }), tt)))
   -- 1, 1, 256, 256 is monotone and a line; the steps, renewed slopes and a position of (0,0), (1,1), (2,4), (3,7) and of (0,0), (3,−10)
   pub is_monotone : SaysMonotone (pos 256) (pos 1) (pos 1) (pos 256) (pos 256) true
   pub coefficients : HasCoefficients (pos 256) (pos 1) (pos 1) (pos 256) (pos 256) (pos 256) (pos 0) (pos 0)

@@ -34,7 +34,7 @@ use Rattle.change.specs.Change.{Changed}
 use Rattle.change.specs.Chain as Chain
 use Rattle.change.specs.WhatIsWritten.{the_point_holds_the_new_knot, the_point_holds_the_new_value, the_slopes_it_renews_are_as_built, no_other_knot_changes, no_other_value_changes, no_other_slope_changes}
 use Rattle.change.specs.RefusedAsABuild.{made_only_then, made_then}
-use Rattle.demands.specs.Demands.{Call, judge, points, build, check, locate, evaluate, float-answer, changed_points, point, Outcome, Implementation, order_of, HoldsAlone, no_such_unit, width_outside, rise_outside, CauseOf, NoneHolds, opposite_ends, LooksAt, its_points, a_build, a_check, a_piece, a_value, a_float_answer, its_changed_points, a_change, lent, MayComeIn, Demand1, CalledByItsRise, it_rises, it_falls, it_is_flat, NoSlopeAgainstItsRise, NoneAgainst, RightSlope, RightSlopes, ExactRounded, Demand2, ChainOf, none, next, JustThis, Demand3, nothing, Document01}
+use Rattle.demands.specs.Demands.{Call, judge, points, build, check, locate, evaluate, float-answer, changed_points, point, Outcome, Implementation, order_of, HoldsAlone, no_such_unit, width_outside, rise_outside, CauseOf, NoneHolds, opposite_ends, LooksAt, its_points, a_build, a_check, a_piece, a_value, a_float_answer, its_changed_points, a_change, to_change, MayComeIn, Demand1, CalledByItsRise, it_rises, it_falls, it_is_flat, NoSlopeAgainstItsRise, NoneAgainst, RightSlope, RightSlopes, ExactRounded, Demand2, ChainOf, none, next, JustThis, Demand3, nothing, Document01}
 use Rattle.demands.specs.Ours.{ours, ours_in-C}
 use Rattle.demands.specs.Kept.{Promised, Keeps, ours_keeps, ours_in-C_keeps}
 use Rattle.demands.specs.ByOrder.{refused_exactly, none_given}
@@ -110,7 +110,7 @@ at_opposite_ends {v = v} {w} {m} {n} u (a_float_answer x) = by_a_float_answer u 
 at_opposite_ends {v = v} {w} {m} {n} u (its_changed_points {c} {before} l e) = as_changed c before l (subst (λ (t : Table). Given (Holds t) build_order 3 0) (sym e) (by_a_build u v w m n))
 at_opposite_ends {v = v} {w} {m} {n} u (a_change {c = c} {before} l e) = as_changed c before l (subst (λ (t : Table). Given (Holds t) build_order 3 0) (sym e) (by_a_build u v w m n))
 
-untouched : (call : Call) (o : Outcome call) → Promised call o → (o.number ≡ 0 → ⊥) → o.lists ≡ lent call
+untouched : (call : Call) (o : Outcome call) → Promised call o → (o.number ≡ 0 → ⊥) → o.lists ≡ to_change call
 untouched (judge s h z m n) o p f = refl
 untouched (points t) o p f = refl
 untouched (build t) o p f = p.slopes ∙ sym (kept _ _ f)

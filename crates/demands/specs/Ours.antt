@@ -9,7 +9,7 @@ use Rattle.drive.specs.declared.Answer as Answer
 use Rattle.drive.specs.Drive.{Telling, dwell, move, told_of}
 use Rattle.exports.specs.declared.answers.Told.{Told}
 use Rattle.exports.specs.Cases.{verdict_number}
-use Rattle.demands.specs.ByContract.{three, whole, refusal, Judges, JudgesC, PointsAnswer, PointsAnswerC, Checks, ChecksC, Builds, BuildsC, ChangedPoints, ChangedPointsC, Changes, ChangesC, Locates, LocatesC, Evaluates, EvaluatesC, Drives, DrivesC}
+use Rattle.demands.specs.ByContract.{three, whole, whole_with, whole_to_change, refusal, Judges, JudgesC, PointsAnswer, PointsAnswerC, Checks, ChecksC, Builds, BuildsC, ChangedPoints, ChangedPointsC, Changes, ChangesC, Locates, LocatesC, Evaluates, EvaluatesC, Drives, DrivesC}
 use Rattle.demands.specs.Demands.{Call, judge, points, build, check, locate, evaluate, float-answer, changed_points, point, Outcome, Implementation}
 use Rattle.piece.proofs.judge.Reads as piece-judge
 use Rattle.table.proofs.points.Reads as table-points
@@ -66,13 +66,13 @@ pub record ByPointC (c : Change) (t : Table) (number place : ℕ) (after : Table
 abbrev pub Asks : Call → Type 0
 Asks (judge s h z m n) = piece-judge.Pre tt (s, (h, (z, (m, (n, tt)))))
 Asks (points t) = table-points.Pre three (whole t tt)
-Asks (build t) = slopes-build.Pre three (whole t tt)
+Asks (build t) = slopes-build.Pre three (whole_with t t.slopes tt)
 Asks (check t) = table-check.Pre three (whole t tt)
 Asks (locate t x) = position-locate.Pre three (whole t (x, tt))
 Asks (evaluate t x) = curve-evaluate.Pre three (whole t (x, tt))
 Asks (float-answer t x) = drive-float_answer.Pre three (whole t (x, tt))
 Asks (changed_points c t) = table-changed_points.Pre three (whole t (c, tt))
-Asks (point made c t) = change-point.Pre three (whole t (c, tt))
+Asks (point made c t) = change-point.Pre three (whole_to_change t (c, tt))
 
 abbrev pub May : (call : Call) → Outcome call → Type 0
 May (judge s h z m n) o = ByJudge s h z m n o
@@ -93,13 +93,13 @@ ours = record { Asks = Asks; May = May }
 abbrev pub AsksC : Call → Type 0
 AsksC (judge s h z m n) = negwafir_judge.Pre tt (s, (h, (z, (m, (n, tt)))))
 AsksC (points t) = negwafir_points.Pre three (whole t tt)
-AsksC (build t) = negwafir_build.Pre three (whole t tt)
+AsksC (build t) = negwafir_build.Pre three (whole_with t t.slopes tt)
 AsksC (check t) = negwafir_check.Pre three (whole t tt)
 AsksC (locate t x) = negwafir_locate.Pre three (whole t (x, tt))
 AsksC (evaluate t x) = negwafir_evaluate.Pre three (whole t (x, tt))
 AsksC (float-answer t x) = negwafir_float_answer.Pre three (whole t (x, tt))
 AsksC (changed_points c t) = negwafir_changed_points.Pre three (whole t (c, tt))
-AsksC (point made c t) = negwafir_change_point.Pre three (whole t (c, tt))
+AsksC (point made c t) = negwafir_change_point.Pre three (whole_to_change t (c, tt))
 
 abbrev pub MayC : (call : Call) → Outcome call → Type 0
 MayC (judge s h z m n) o = JudgesC s h z m n o.number o.place (verdict_number o.answer)

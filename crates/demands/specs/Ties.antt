@@ -3,7 +3,7 @@
 -- result is what is returned and, where a list is lent to be changed, what it holds when the call returns. The functions with a `requires` are `TiedWhere` it is met.
 use Rattle.std.specs.Prelude.{◌≡◌, refl, List, ℕ, ℤ}
 use Rattle.std.proofs.Common.{sym, ◌∙◌, ap, subst}
-use Rattle.std.specs.Borrow.{Bor}
+use Rattle.std.specs.Borrow.{Bor, MutBor}
 use Rattle.integers.specs.Decided.{one_decision}
 use Rattle.integers.specs.Nearest.{one_rounded}
 use Rattle.words.specs.Determined.{one_count, one_buffer}
@@ -119,13 +119,13 @@ result κs r x = r
 abbrev pub contents : {L X S : Type 0} → L → Bor X → S → X
 contents κs r x = r.now
 
-abbrev pub with_first : {L R X S : Type 0} → L → R → Bor X × S → R × X
+abbrev pub with_first : {L R X S : Type 0} → L → R → MutBor X × S → R × X
 with_first κs r x = (r, x.0.now)
 
-abbrev pub with_third : {L R N X Y Z S : Type 0} → L → R → N × (Bor X × (Bor Y × (Bor Z × S))) → R × Z
+abbrev pub with_third : {L R N X Y Z S : Type 0} → L → R → N × (Bor X × (Bor Y × (MutBor Z × S))) → R × Z
 with_third κs r x = (r, x.1.1.1.0.now)
 
-abbrev pub with_three : {L R N X Y Z S : Type 0} → L → R → N × (Bor X × (Bor Y × (Bor Z × S))) → R × (X × (Y × Z))
+abbrev pub with_three : {L R N X Y Z S : Type 0} → L → R → N × (MutBor X × (MutBor Y × (MutBor Z × S))) → R × (X × (Y × Z))
 with_three κs r x = (r, (x.1.0.now, (x.1.1.0.now, x.1.1.1.0.now)))
 
 -- ---- records, field by field

@@ -7,6 +7,7 @@ use Rattle.decimals.specs.Text.{spelled}
 use Rattle.answers.specs.declared.filling.Signed.{Signed}
 use Rattle.answers.specs.Filling.{filled}
 use Rattle.answers.specs.Texts.{entry_of}
+use Rattle.demands.specs.ByContract.{to_change}
 use Rattle.demands.specs.InstancesBelow.{bytes, seven, minus_zero, three}
 use Rattle.demands.specs.Refuting.{lists_differ}
 use Rattle.answers.proofs.natural.Reads as answers-natural
@@ -86,8 +87,8 @@ least_whole32_too_small p = lists_differ tt (ap sign_and_size p)
 -- with the numbers 7, −0 and 3
 abbrev fill : (before : List ℕ) (held : ℕ) (template text after : List ℕ) (r : ℕ) → Type 0
 fill before held template text after r =
-    answers-fill.Post ([], ([], ([], tt))) (bytes before, (held, (bytes template, (bytes text, (seven, (minus_zero, (three, tt))))))) r
-    (bytes after, (held, (bytes template, (bytes text, (seven, (minus_zero, (three, tt)))))))
+    answers-fill.Post ([], ([], ([], tt))) (to_change before, (held, (bytes template, (bytes text, (seven, (minus_zero, (three, tt))))))) r
+    (to_change after, (held, (bytes template, (bytes text, (seven, (minus_zero, (three, tt)))))))
 
 -- `#,#` is `7,-0`, and not `7,7`
 pub first_number_again : fill (46 ∷ 46 ∷ 46 ∷ 46 ∷ []) 0 (35 ∷ 44 ∷ 35 ∷ []) [] (55 ∷ 44 ∷ 55 ∷ 46 ∷ []) 3 → ⊥

@@ -8,7 +8,7 @@ use Rattle.words.specs.Words.{front, words_after}
 use Rattle.decimals.specs.Decimal.{are_digits, natural}
 use Rattle.decimals.specs.Text.{spelled}
 use Rattle.lists.specs.Lists.{numbers_of, spaced}
-use Rattle.demands.specs.ByContract.{list}
+use Rattle.demands.specs.ByContract.{to_change, list}
 use Rattle.demands.specs.InstancesBelow.{bytes}
 use Rattle.demands.specs.Refuting.{numbers_differ, lists_differ}
 use Rattle.lines.proofs.take.Reads as lines-take
@@ -27,7 +27,7 @@ bit false = pos 0
 
 abbrev take : (line : List ℕ) (held : ℕ) (chunk : List ℕ) (from : ℕ) (after : List ℕ) (n next : ℕ) (whole : Bool) → Type 0
 take line held chunk from after n next whole =
-    lines-take.Post two (bytes line, (held, (bytes chunk, (from, tt)))) (record { held = n; next = next; whole = whole }) (bytes after, (held, (bytes chunk, (from, tt))))
+    lines-take.Post two (to_change line, (held, (bytes chunk, (from, tt)))) (record { held = n; next = next; whole = whole }) (to_change after, (held, (bytes chunk, (from, tt))))
 
 -- of `a`, LF, `b` the line `a` is held, without its LF
 pub line_feed_held : take (0 ∷ 0 ∷ []) 0 (97 ∷ 10 ∷ 98 ∷ []) 0 (97 ∷ 10 ∷ []) 2 2 true → ⊥
@@ -67,7 +67,7 @@ line_feed_at_the_end_passed_over p = numbers_differ tt (ap bit p.ended)
 -- ---- lists::set
 
 abbrev set : (before : List ℤ) (line : List ℕ) (after : List ℤ) (r : ℕ) → Type 0
-set before line after r = lists-set.Post two (list before, (bytes line, tt)) r (list after, (bytes line, tt))
+set before line after r = lists-set.Post two (to_change before, (bytes line, tt)) r (to_change after, (bytes line, tt))
 
 -- the first word is the command, even where it is a number: `1 2` puts 2 there
 pub command_taken_for_a_number : set (pos 0 ∷ pos 0 ∷ []) (49 ∷ 32 ∷ 50 ∷ []) (pos 1 ∷ pos 2 ∷ []) 2 → ⊥
@@ -107,7 +107,7 @@ set_and_not_counted p = numbers_differ tt (ap pos p.counted)
 -- ---- lists::append_row
 
 abbrev append_row : (before : List ℕ) (held : ℕ) (row : List ℤ) (after : List ℕ) (r : ℕ) → Type 0
-append_row before held row after r = lists-append_row.Post two (bytes before, (held, (list row, tt))) r (bytes after, (held, (list row, tt)))
+append_row before held row after r = lists-append_row.Post two (to_change before, (held, (list row, tt))) r (to_change after, (held, (list row, tt)))
 
 -- 7 and −8 are written `7 -8`, and not `7-8`
 pub no_space_between : append_row (0 ∷ 0 ∷ 0 ∷ 0 ∷ []) 0 (pos 7 ∷ negsuc 7 ∷ []) (55 ∷ 45 ∷ 56 ∷ 0 ∷ []) 3 → ⊥

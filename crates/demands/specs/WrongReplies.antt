@@ -12,13 +12,14 @@ use Rattle.replies.specs.declared.Reply.{Reply}
 use Rattle.replies.specs.declared.Reply.TheVariants.{Silent, Wrong, Done, Count, Judged, Valued, Driven, SlopeUnit}
 use Rattle.replies.specs.Floats.{float_as}
 use Rattle.replies.specs.Replies.{fault_line, line_of}
+use Rattle.demands.specs.ByContract.{to_change}
 use Rattle.demands.specs.InstancesBelow.{bytes}
 use Rattle.demands.specs.Refuting.{lists_differ}
 use Rattle.replies.proofs.append_reply.Reads as replies-append_reply
 
 -- `append_reply`, of a buffer of which `held` bytes are held
 abbrev append : (before : List ℕ) (held : ℕ) → Reply → (after : List ℕ) (r : ℕ) → Type 0
-append before held reply after r = replies-append_reply.Post ([], tt) (bytes before, (held, (reply, tt))) r (bytes after, (held, (reply, tt)))
+append before held reply after r = replies-append_reply.Post ([], tt) (to_change before, (held, (reply, tt))) r (to_change after, (held, (reply, tt)))
 
 -- a buffer of `.` that has room for one byte more than a line
 abbrev room : List ℕ → List ℕ

@@ -22,6 +22,7 @@ use Rattle.exports.specs.declared.text.Read.{Read}
 use Rattle.exports.specs.declared.text.Read32.{Read32}
 use Rattle.exports.specs.Cases.{found, nothing, NumberAs, Number32As}
 use Rattle.exports.specs.Determined.{one_span, one_read, one_read32}
+use Rattle.demands.specs.ByContract.{to_change}
 use Rattle.demands.specs.WrongNumbers.{either}
 use Rattle.words.proofs.find.Reads as words-find
 use Rattle.words.proofs.content.Reads as words-content
@@ -265,8 +266,8 @@ line_feed_not_counted p = differ (ap number p) tt
 
 abbrev append : (before : List ℕ) (held : ℕ) (more after : List ℕ) (r : ℕ) → Type 0
 append before held more after r =
-    words-append.Post two (bytes before, (held, (bytes more, tt))) r (bytes after, (held, (bytes more, tt)))
-    ⊎ exports-negwafir_append.Post two (bytes before, (held, (bytes more, tt))) r (bytes after, (held, (bytes more, tt)))
+    words-append.Post two (to_change before, (held, (bytes more, tt))) r (to_change after, (held, (bytes more, tt)))
+    ⊎ exports-negwafir_append.Post two (to_change before, (held, (bytes more, tt))) r (to_change after, (held, (bytes more, tt)))
 
 -- `cd` appended to a buffer of three bytes that holds `ab` gives `abc`, and not `cb` and the byte that stood there
 pub held_bytes_overwritten : append (97 ∷ 98 ∷ 120 ∷ []) 2 (99 ∷ 100 ∷ []) (99 ∷ 98 ∷ 120 ∷ []) 3 → ⊥
@@ -397,8 +398,8 @@ value_of_no_number32 p = differ (ap kind_and_value32 (one_read32 p Number32As.to
 
 abbrev append_natural : (before : List ℕ) (held : ℕ) (n : ℕ) (after : List ℕ) (r : ℕ) → Type 0
 append_natural before held n after r =
-    decimals-append_natural.Post one (bytes before, (held, (n, tt))) r (bytes after, (held, (n, tt)))
-    ⊎ exports-negwafir_append_natural.Post one (bytes before, (held, (n, tt))) r (bytes after, (held, (n, tt)))
+    decimals-append_natural.Post one (to_change before, (held, (n, tt))) r (to_change after, (held, (n, tt)))
+    ⊎ exports-negwafir_append_natural.Post one (to_change before, (held, (n, tt))) r (to_change after, (held, (n, tt)))
 
 -- so many divisions by ten leave one digit of n, and then they are enough to write it
 abbrev short : (divisions n : ℕ) → Bool
@@ -435,8 +436,8 @@ natural_as_signed p = differ (ap number (written_so 19 18446744073709551615 tt (
 
 abbrev append_whole : (before : List ℕ) (held : ℕ) (n : ℤ) (after : List ℕ) (r : ℕ) → Type 0
 append_whole before held n after r =
-    decimals-append_whole.Post one (bytes before, (held, (n, tt))) r (bytes after, (held, (n, tt)))
-    ⊎ exports-negwafir_append_whole.Post one (bytes before, (held, (n, tt))) r (bytes after, (held, (n, tt)))
+    decimals-append_whole.Post one (to_change before, (held, (n, tt))) r (to_change after, (held, (n, tt)))
+    ⊎ exports-negwafir_append_whole.Post one (to_change before, (held, (n, tt))) r (to_change after, (held, (n, tt)))
 
 -- −5 is written `-5`, and not `+5`
 pub sign_written_plus : append_whole (120 ∷ 120 ∷ []) 0 (negsuc 4) (43 ∷ 53 ∷ []) 2 → ⊥
@@ -462,8 +463,8 @@ whole_over_what_is_held p = differ (either p).buffer tt
 
 abbrev append_whole32 : (before : List ℕ) (held : ℕ) (n : ℤ) (after : List ℕ) (r : ℕ) → Type 0
 append_whole32 before held n after r =
-    decimals-append_whole32.Post one (bytes before, (held, (n, tt))) r (bytes after, (held, (n, tt)))
-    ⊎ exports-negwafir_append_whole32.Post one (bytes before, (held, (n, tt))) r (bytes after, (held, (n, tt)))
+    decimals-append_whole32.Post one (to_change before, (held, (n, tt))) r (to_change after, (held, (n, tt)))
+    ⊎ exports-negwafir_append_whole32.Post one (to_change before, (held, (n, tt))) r (to_change after, (held, (n, tt)))
 
 -- 5 is written `5`, and not `0`
 pub number32_always_0 : append_whole32 (120 ∷ []) 0 (pos 5) (48 ∷ []) 1 → ⊥

@@ -2,6 +2,7 @@
 use mathlib.Core.Path.{sym, subst, subst₂}
 use borrow.Author.Rules.{rules}
 use lib.IntN.{ℤ}
+use mir.Syntax.{w64}
 use mir.Facts.{to_z-of_z}
 use Rattle.integers.specs.Promise.{Rounded}
 use Rattle.exports.proofs.numbers.negwafir_nearest_div.Statement.{statement}
@@ -13,7 +14,7 @@ nearest_div-requires c κs = search rules
 returns : tie.Need-returns
 returns c =
     let s = c.before in
-    subst (Rounded s.args.n s.args.d) (sym (to_z-of_z (record { sfits = c.nearest_div.type_inv })))
+    subst (Rounded s.args.n s.args.d) (sym (to_z-of_z {w = w64} (record { sfits = c.nearest_div.type_inv })))
     (subst₂ (λ (n d : ℤ). Rounded n d c.nearest_div.result) (to_z-of_z s.ranges.n) (to_z-of_z s.ranges.d) c.nearest_div.ensures)
 
 pub negwafir_nearest_div_spec : {M : Type 1} → statement M
