@@ -1,5 +1,5 @@
 -- The user's three demands, word for word, as requests 2, 6 and 8 of document 02 amend them, as predicates of any implementation, and what document 01 says of answers beside them.
--- This file has no proof: it can be read from top to bottom. `Met.antt` shows that ours meets them, as Rattle functions and as the library for C; `NothingElse.antt` that whatever meets them answers as ours does; and
+-- This file has no proof: it can be read from top to bottom. `BothMeet.antt` shows that ours meets them, as Rattle functions and as the library for C; `NothingElse.antt` that whatever meets them answers as ours does; and
 -- `Wrong1.antt`, `Wrong2.antt`, `WrongEnds.antt`, `WrongUnits.antt`, `Wrong3.antt` and `Wrong01.antt` of wrong programs that they do not. What follows from the demands and has a file of its own, in the same words and without a proof:
 --   `NeverBacksUp.antt`           request 10 of document 02: on no piece does the arm go against the rise, whoever proposed the slopes, and after whatever changes
 --
@@ -33,7 +33,7 @@
 --   Floor n d q                   q is n/d rounded down: q·d ≤ n < (q + 1)·d
 --   magnitude x, with_sign z x     x without its sign; x with the sign of z
 --   ToldAt t x a                  a is what the drive is to be told at x: on a flat piece a dwell at its value, on any other a move of three exact floats (`Drive.antt`)
--- `Met.antt` also has the words in which our own functions promise what they do. They are not used here: `Given` says which number and place an order of causes gives, `Judged`, `Built`,
+-- `BothMeet.antt` also has the words in which our own functions promise what they do. They are not used here: `Given` says which number and place an order of causes gives, `Judged`, `Built`,
 -- `Located`, `Evaluated`, `Driving` and `Changed` what comes out of a verdict, a build, .. and a change, and `Chain` that a list of such changes is made one after another.
 use Rattle.std.specs.Prelude.{◌≡◌, ◌↔◌, ◌⊎◌, List, [], ◌∷◌, ◌++◌, ℕ, ◌+◌, ◌<◌, ◌≤◌, ℤ, pos, negsuc, ◌+ℤ◌, ◌-ℤ◌, ◌*ℤ◌, ◌≤ℤ◌, ◌<ℤ◌, length}
 use Rattle.std.specs.Int.{w32}

@@ -22,8 +22,8 @@ use Rattle.exports.specs.Cases.{judged, moves}
 use Rattle.demands.specs.Demands.{judge, points, build, check, locate, evaluate, float-answer, changed_points, point, Implementation}
 use Rattle.demands.specs.Ours.{ours, ours_in-C, a_move}
 use Rattle.demands.specs.Refuting.{within}
-use Rattle.demands.specs.SixteenGiven.{eighth, has_value}
-use Rattle.demands.specs.Programs.{outcome, two, two_within, two_built, two_passes, four, lowering, lowered, is_lowered}
+use Rattle.demands.proofs.SixteenGiven.{eighth, has_value}
+use Rattle.demands.proofs.Programs.{outcome, two, two_within, two_built, two_passes, four, lowering, lowered, is_lowered}
 
 -- 23038 and 6912 are 11519·2 and 27·2^8
 abbrev numerator : Telling

@@ -18,11 +18,11 @@ use Rattle.position.specs.Refused.{accepted_at}
 use Rattle.drive.specs.Drive.{Telling, dwell, move, ToldAt, ToldOn, dwells, moves, HoldsFor, float_order}
 use Rattle.drive.specs.Refused.{as_evaluated, taken_small}
 use Rattle.demands.specs.Demands.{judge, locate, evaluate, float-answer, Document01}
-use Rattle.demands.specs.Programs.{outcome, answering, another_judge, another_locate, another_evaluate, another_float_answer, two, two_within, at_1}
-use Rattle.demands.specs.SixteenGiven.{count}
+use Rattle.demands.proofs.Programs.{outcome, answering, another_judge, another_locate, another_evaluate, another_float_answer, two, two_within, at_1}
+use Rattle.demands.proofs.SixteenGiven.{count}
 use Rattle.demands.specs.Refuting.{within, below_the_line, in_piece, numbers_differ, apart}
-use Rattle.demands.specs.WrongDrives.{one_number}
-use Rattle.demands.specs.WrongUnits.{whole, proposed}
+use Rattle.demands.proofs.WrongDrives.{one_number}
+use Rattle.demands.proofs.WrongUnits.{whole, proposed}
 
 -- "none of the four verdicts": a refused piece is called rising
 abbrev is_rising : Finding → Bool

@@ -27,11 +27,11 @@ use Rattle.drive.specs.Refused.{as_evaluated, refused_large}
 use Rattle.demands.specs.Demands
 use Rattle.demands.specs.Demands.{Call, judge, points, build, check, locate, evaluate, float-answer, changed_points, point, Outcome, opposite_ends, LooksAt, its_points, a_value, Demand1}
 use Rattle.demands.specs.Ours.{May}
-use Rattle.demands.specs.Met.{width_taken}
+use Rattle.demands.proofs.BothMeet.{width_taken}
 use Rattle.demands.specs.Shown.{by_a_build, by_a_check}
-use Rattle.demands.specs.SixteenGiven.{eighth, count, has_value}
+use Rattle.demands.proofs.SixteenGiven.{eighth, count, has_value}
 use Rattle.demands.specs.Refuting.{within, above_8, no_unit, below_the_line, the_point_is_there, not_outside, numbers_differ}
-use Rattle.demands.specs.Programs.{outcome, answering, another_judge, another_points, another_build, another_check, another_locate, another_evaluate, another_float_answer, another_changed_points, another_point, its_cause, its_refusal, two, two_within, two_built, four, four_within, lowering}
+use Rattle.demands.proofs.Programs.{outcome, answering, another_judge, another_points, another_build, another_check, another_locate, another_evaluate, another_float_answer, another_changed_points, another_point, its_cause, its_refusal, two, two_within, two_built, four, four_within, lowering}
 
 -- ======== "Any points, slopes, positions and edits may come in, from any list of any length."
 

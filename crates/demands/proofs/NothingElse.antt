@@ -30,8 +30,8 @@ use Rattle.demands.specs.Demands.{Call, judge, points, build, check, locate, eva
 use Rattle.demands.specs.ByOrder.{refused_exactly}
 use Rattle.demands.specs.Cubic.{monotone_without, no_slope_against}
 use Rattle.demands.specs.Kept.{Promised}
-use Rattle.demands.specs.Met.{alone, finding_of, not_bends}
-use Rattle.demands.specs.Programs.{its_refusal}
+use Rattle.demands.proofs.BothMeet.{alone, finding_of, not_bends}
+use Rattle.demands.proofs.Programs.{its_refusal}
 use Rattle.demands.specs.Rules.{one_in_units, one_end, one_mean}
 use Rattle.demands.specs.Shown.{right_slope}
 use Rattle.demands.specs.Values.{the_exact_is_the_value}

@@ -22,7 +22,7 @@ use Rattle.demands.specs.Demands.{Call, judge, points, build, check, locate, eva
 use Rattle.demands.specs.Ours.{Asks, May}
 use Rattle.demands.specs.ByOrder.{refused_exactly}
 use Rattle.demands.specs.Refuting.{within, numbers_differ}
-use Rattle.demands.specs.SixteenGiven.{eighth, count, has_slopes, has_value}
+use Rattle.demands.proofs.SixteenGiven.{eighth, count, has_slopes, has_value}
 
 -- what comes out of a call
 abbrev pub outcome : {call : Call} → ℕ → ℕ → Reply call → Lists call → Outcome call
