@@ -4,17 +4,7 @@ pub mod Slopes
 pub mod Never
 pub mod Test
 pub mod OneTest
-pub mod Monotone
-pub mod Rise
 pub mod Horner
 pub mod Value
-pub mod Rounded
 pub mod Along
-pub mod InOrder
-pub mod Fractions
-pub mod Small
-pub mod Box
-pub mod Inner
-pub mod End
 pub mod Fair
-pub mod Decided

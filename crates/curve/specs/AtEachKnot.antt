@@ -4,7 +4,7 @@ use Rattle.std.proofs.Common.{◌∙◌, ap, subst, ⊎_elim, eq-or-lt_of_le, ar
 use Rattle.std.proofs.Math.IntN.{+ℤ_idr, +ℤ_invr}
 use Rattle.integers.specs.Order.{across}
 use Rattle.cubic.specs.Value.{risen}
-use Rattle.cubic.specs.InOrder.{risen_at_left, risen_at_right}
+use Rattle.cubic.proofs.InOrder.{risen_at_left, risen_at_right}
 use Rattle.rules.specs.Limits.{unit}
 use Rattle.rules.specs.Known.{unit_size, 0<_unit, 0<_width}
 use Rattle.rules.specs.Order.{answer_right}

@@ -6,7 +6,7 @@ use Rattle.std.specs.Int.Signed.{≤ℤ_refl}
 use Rattle.integers.specs.Linear.{lin, says}
 use Rattle.integers.specs.Order.{0≤_gap, ≤ℤ_or-<ℤ, ≤ℤ_antisym}
 use Rattle.cubic.specs.Along.{Along, along_moved}
-use Rattle.cubic.specs.InOrder.{risen_in_order}
+use Rattle.cubic.proofs.InOrder.{risen_in_order}
 use Rattle.rules.specs.Known.{unit_size, 0<_unit, 0<_width}
 use Rattle.table.specs.Table.{Table, entry, step}
 use Rattle.table.specs.Accepted.{Accepted}

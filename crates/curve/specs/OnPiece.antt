@@ -6,7 +6,7 @@ use Rattle.integers.specs.Within.{Within}
 use Rattle.integers.specs.Sizes.{between_fits}
 use Rattle.cubic.specs.Value.{risen}
 use Rattle.cubic.specs.Along.{Along, Amid, upwards, downwards, amid, part_within}
-use Rattle.cubic.specs.InOrder.{risen_from_left, risen_to_right}
+use Rattle.cubic.proofs.InOrder.{risen_from_left, risen_to_right}
 use Rattle.rules.specs.Known.{0<_unit, 0<_width, rise_size}
 use Rattle.position.specs.Spot.{InPiece}
 

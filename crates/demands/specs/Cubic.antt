@@ -6,8 +6,8 @@ use Rattle.integers.specs.Ring.{ring, quote}
 use Rattle.integers.specs.Linear.{lin, says}
 use Rattle.integers.specs.Order.{0≤_number, pos-≤}
 use Rattle.cubic.specs.Piece.{slope_at, rise_at, Monotone}
-use Rattle.cubic.specs.Rise.{at_left, at_right}
-use Rattle.cubic.specs.InOrder.{the_cubic_is_in_order}
+use Rattle.cubic.proofs.Rise.{at_left, at_right}
+use Rattle.cubic.proofs.InOrder.{the_cubic_is_in_order}
 use Rattle.demands.specs.Demands.{NoSlopeAgainstItsRise}
 
 -- `slope_at` is the slope of `rise_at`: from the fraction k/q on to (k + e)/q the cubic rises by e times its slope there, and a rest with e².

@@ -4,8 +4,9 @@ use Rattle.std.specs.Prelude.{refl, true, false, [], ◌∷◌, pos, negsuc}
 use Rattle.std.proofs.Common.{lit<}
 use Rattle.std.specs.Int.Signed.{le_z_yes, lt_z_yes}
 use Rattle.std.specs.Float.{fin}
-use Rattle.cubic.specs.Monotone.{monotone_rising}
-use Rattle.cubic.specs.Test.{line, short_accepts}
+use Rattle.cubic.proofs.Monotone.{monotone_rising}
+use Rattle.cubic.specs.Test.{line}
+use Rattle.cubic.proofs.Test.{short_accepts}
 use Rattle.rules.specs.Refusals.{Given, answered}
 use Rattle.rules.specs.Order.{went_on}
 use Rattle.table.specs.Accepted.{points_accepted, accepted_table}

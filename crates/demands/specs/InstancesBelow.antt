@@ -5,8 +5,9 @@ use Rattle.std.proofs.Common.{sym, lit<}
 use Rattle.std.specs.Int.Signed.{le_z_yes, lt_z_yes}
 use Rattle.std.specs.Borrow.{Bor}
 use Rattle.integers.specs.Promise.{holds}
-use Rattle.cubic.specs.Monotone.{monotone_rising}
-use Rattle.cubic.specs.Test.{line, short_accepts}
+use Rattle.cubic.proofs.Monotone.{monotone_rising}
+use Rattle.cubic.specs.Test.{line}
+use Rattle.cubic.proofs.Test.{short_accepts}
 use Rattle.words.specs.Words.{front, words_after}
 use Rattle.words.specs.declared.split.Word.TheVariants.{At}
 use Rattle.decimals.specs.Decimal.{are_digits, natural}

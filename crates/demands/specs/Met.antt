@@ -2,7 +2,7 @@
 -- meets the demands.
 use Rattle.std.specs.Prelude.{Bool, true, false, ◌≡◌, refl, ◌↔◌, ◌⊎◌, List, [], ◌∷◌, ◌++◌, ℕ, ◌≤◌, T, ℤ, length}
 use Rattle.std.proofs.Common.{sym, ◌∙◌, ap, subst, subst₂, inl, inr, ⊎_elim, arith, length-set}
-use Rattle.cubic.specs.Monotone.{monotone_stable}
+use Rattle.cubic.proofs.Monotone.{monotone_stable}
 use Rattle.rules.specs.Limits.{unit, UnitWithin, WidthWithin, RiseWithin}
 use Rattle.rules.specs.Known.{unit_size, 0<_unit}
 use Rattle.rules.specs.Refusals.{Given, done, refused, passed, Answered, answered}

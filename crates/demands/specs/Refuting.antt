@@ -6,8 +6,9 @@ use Rattle.std.specs.Int.Signed.{le_z, lt_z, le_z_yes, lt_z_yes}
 use Rattle.integers.specs.Promise.{Between}
 use Rattle.cubic.specs.Piece.{slope_at, Monotone}
 use Rattle.cubic.specs.Slope.{over}
-use Rattle.cubic.specs.Test.{line, oval, short_accepts}
-use Rattle.cubic.specs.Monotone.{monotone_rising}
+use Rattle.cubic.specs.Test.{line, oval}
+use Rattle.cubic.proofs.Test.{short_accepts}
+use Rattle.cubic.proofs.Monotone.{monotone_rising}
 use Rattle.rules.specs.Limits.{UnitWithin, WidthWithin, RiseWithin}
 use Rattle.rules.specs.Refusals.{Given, done, refused, passed, Answered, nothing}
 use Rattle.table.specs.declared.changed.Change.{Change}

@@ -9,8 +9,8 @@ use Rattle.integers.specs.Signs.{0<_magnitude, by_sign}
 use Rattle.integers.specs.Division.{floor_of_lem, floor_unique, 0≤_floor, toward_scaled}
 use Rattle.integers.specs.Decided.{<ℤ_or_not}
 use Rattle.cubic.specs.Slopes.{in_units, end_slope, mean_above, mean_below, inner_slope}
-use Rattle.cubic.specs.End.{0<_end_below, end_level, end_bounded, end_unbounded}
-use Rattle.cubic.specs.Inner.{inner_level, inner_steep}
+use Rattle.cubic.proofs.End.{0<_end_below, end_level, end_bounded, end_unbounded}
+use Rattle.cubic.proofs.Inner.{inner_level, inner_steep}
 use Rattle.demands.specs.Demands.{InUnits, end_above, end_below, EndRule, MeanRule}
 
 signed_size : (z f : ℤ) → pos 0 ≤ℤ f → magnitude (with_sign z f) ≡ f

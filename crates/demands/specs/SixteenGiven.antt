@@ -3,8 +3,9 @@ use Rattle.std.specs.Prelude.{◌≡◌, refl, List, ℕ, ◌≤◌, T, leb, ℤ
 use Rattle.std.proofs.Common.{sym, ◌∙◌, ap, subst, lit<, lit≤}
 use Rattle.std.specs.Int.Signed.{le_z, le_z_yes, lt_z_yes}
 use Rattle.cubic.specs.Piece.{slope_at}
-use Rattle.cubic.specs.Test.{Short, line, oval, short_accepts}
-use Rattle.cubic.specs.Monotone.{monotone_rising, monotone_falling, monotone_level}
+use Rattle.cubic.specs.Test.{Short, line, oval}
+use Rattle.cubic.proofs.Test.{short_accepts}
+use Rattle.cubic.proofs.Monotone.{monotone_rising, monotone_falling, monotone_level}
 use Rattle.rules.specs.Limits.{unit, UnitWithin, CountWithin, WidthWithin, RiseWithin}
 use Rattle.rules.specs.Refusals.{answered}
 use Rattle.rules.specs.Order.{went_on}

@@ -6,7 +6,7 @@ use Rattle.integers.specs.Linear.{lin, says}
 use Rattle.integers.specs.Order.{0≤_number, <ℤ→≤ℤ, ≤ℤ_antisym, ≤ℤ_or-<ℤ}
 use Rattle.integers.specs.Nearest.{nearest_of_lem, nearest_unique}
 use Rattle.cubic.specs.Value.{numerator, denominator}
-use Rattle.cubic.specs.Rounded.{0<_denominator}
+use Rattle.cubic.proofs.Rounded.{0<_denominator}
 use Rattle.rules.specs.Limits.{unit, UnitWithin, WidthWithin}
 use Rattle.rules.specs.Known.{unit_size, 0<_unit, 0<_width}
 use Rattle.table.specs.Table.{Table, entry}

@@ -4,8 +4,9 @@ use Rattle.std.proofs.Common.{ap, arith, lit<, SFits, to_z, of_z}
 use Rattle.std.specs.Int.Signed.{le_z_yes, lt_z_yes}
 use Rattle.std.specs.Int.{w32}
 use Rattle.integers.specs.Promise.{magnitude}
-use Rattle.cubic.specs.Monotone.{monotone_rising}
-use Rattle.cubic.specs.Test.{line, short_accepts}
+use Rattle.cubic.proofs.Monotone.{monotone_rising}
+use Rattle.cubic.specs.Test.{line}
+use Rattle.cubic.proofs.Test.{short_accepts}
 use Rattle.rules.specs.Limits.{unit, UnitWithin, CountWithin, WidthWithin}
 use Rattle.rules.specs.Refusals.{Given, done, refused, passed}
 use Rattle.rules.specs.Order.{Same, one_more_cause, carried, one_given, stopped, went_on}

@@ -5,8 +5,9 @@ use Rattle.std.specs.Int.Signed.{le_z_yes, lt_z_yes}
 use Rattle.integers.specs.Promise.{floor_of, nearest_of, magnitude, with_sign, toward_zero}
 use Rattle.cubic.specs.Slopes.{mean_below, mean}
 use Rattle.cubic.specs.Value.{numerator, denominator, risen}
-use Rattle.cubic.specs.Monotone.{monotone_rising}
-use Rattle.cubic.specs.Test.{line, oval, short_accepts}
+use Rattle.cubic.proofs.Monotone.{monotone_rising}
+use Rattle.cubic.specs.Test.{line, oval}
+use Rattle.cubic.proofs.Test.{short_accepts}
 use Rattle.rules.specs.Limits.{unit, UnitWithin}
 use Rattle.rules.specs.Refusals.{Given, afterwards, Answered, answered}
 use Rattle.table.specs.Table.{Table, table, entry, step, Holds, build_order}

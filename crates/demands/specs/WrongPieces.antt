@@ -5,7 +5,7 @@ use Rattle.std.proofs.Common.{ap, arith, lit≤}
 use Rattle.std.specs.Int.Signed.{lt_z_yes}
 use Rattle.integers.specs.Decided.{told, denied}
 use Rattle.cubic.specs.Piece.{Monotone}
-use Rattle.cubic.specs.Monotone.{monotone_level}
+use Rattle.cubic.proofs.Monotone.{monotone_level}
 use Rattle.rules.specs.Limits.{unit, UnitWithin, WidthWithin, RiseWithin}
 use Rattle.rules.specs.Known.{unit_size}
 use Rattle.piece.specs.declared.Verdict.{Verdict}

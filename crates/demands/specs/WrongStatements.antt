@@ -2,8 +2,9 @@
 use Rattle.std.specs.Prelude.{◌≡◌, refl, List, [], ◌∷◌, ℕ, ◌+◌, ◌*◌, ◌<◌, ◌≤◌, ℤ, pos, negsuc, ◌≤ℤ◌, ◌<ℤ◌, length}
 use Rattle.std.proofs.Common.{lit<, lit≤}
 use Rattle.std.specs.Int.Signed.{le_z_yes, lt_z_yes}
-use Rattle.cubic.specs.Monotone.{monotone_rising}
-use Rattle.cubic.specs.Test.{line, short_accepts}
+use Rattle.cubic.proofs.Monotone.{monotone_rising}
+use Rattle.cubic.specs.Test.{line}
+use Rattle.cubic.proofs.Test.{short_accepts}
 use Rattle.rules.specs.Limits.{unit}
 use Rattle.rules.specs.Refusals.{answered}
 use Rattle.table.specs.declared.changed.Change.{Change}

@@ -6,8 +6,9 @@ use Rattle.integers.specs.Order.{≤_pos, ≤ℤ_or-<ℤ}
 use Rattle.integers.specs.Decided.{beyond}
 use Rattle.integers.specs.Within.{nat_abs_product, within_product}
 use Rattle.integers.specs.Arguments.{same₄}
-use Rattle.cubic.specs.Small.{monotone_small}
-use Rattle.cubic.specs.Horner.{HornerWithin, horner_within}
+use Rattle.cubic.proofs.Small.{monotone_small}
+use Rattle.cubic.specs.Horner.{HornerWithin}
+use Rattle.cubic.proofs.Horner.{horner_within}
 use Rattle.rules.specs.Limits.{WidthWithin, TooLarge}
 use Rattle.rules.specs.Known.{unit_within_256}
 use Rattle.piece.specs.Cubic.{Coefficients}

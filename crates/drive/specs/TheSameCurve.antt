@@ -5,7 +5,7 @@ use Rattle.std.proofs.Math.IntN.{+ℤ_idr}
 use Rattle.std.specs.Float.{binary64}
 use Rattle.floats.specs.Promise.{Exactly}
 use Rattle.cubic.specs.Value.{rounded, risen}
-use Rattle.cubic.specs.Rounded.{the_whole_rounded, 0<_denominator}
+use Rattle.cubic.proofs.Rounded.{the_whole_rounded, 0<_denominator}
 use Rattle.rules.specs.Known.{0<_unit, 0<_width}
 use Rattle.table.specs.Table.{Table}
 use Rattle.table.specs.Accepted.{Accepted}

@@ -45,8 +45,7 @@ pub struct Told {
     pub denominator: f64,
 }
 
-#[unsafe(no_mangle)]
-pub extern "C" fn negwafir_judge(s: u32, h: i64, z: i64, m: i32, n: i32) -> Judgement
+pub fn negwafir_judge(s: u32, h: i64, z: i64, m: i32, n: i32) -> Judgement
     ensures { JudgedAs s h z m n result.refusal.number result.refusal.place result.verdict }
 {
     let done = Refusal {
@@ -77,8 +76,7 @@ pub extern "C" fn negwafir_judge(s: u32, h: i64, z: i64, m: i32, n: i32) -> Judg
     }
 }
 
-#[unsafe(no_mangle)]
-pub extern "C" fn negwafir_locate(
+pub fn negwafir_locate(
     s: u32,
     knots: &[i32],
     values: &[i32],
@@ -90,8 +88,7 @@ pub extern "C" fn negwafir_locate(
     position::locate(s, knots, values, slopes, position)
 }
 
-#[unsafe(no_mangle)]
-pub extern "C" fn negwafir_evaluate(
+pub fn negwafir_evaluate(
     s: u32,
     knots: &[i32],
     values: &[i32],
@@ -103,8 +100,7 @@ pub extern "C" fn negwafir_evaluate(
     curve::evaluate(s, knots, values, slopes, position)
 }
 
-#[unsafe(no_mangle)]
-pub extern "C" fn negwafir_float_answer(
+pub fn negwafir_float_answer(
     s: u32,
     knots: &[i32],
     values: &[i32],

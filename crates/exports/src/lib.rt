@@ -1,6 +1,5 @@
-// The library that a C program links: every public function below that asks nothing of its caller, by the C calling convention. Each is a call of
-// the proved function and promises the same. Lists cross as a pointer and a length, and records by value; where the function below answers an enum, a
-// record with a number for its case crosses. `include/negwafir.h` says all this to the C programmer.
+// What a C program calls, as Rattle sees it: every public function below that asks nothing of its caller. Each is a call of the proved function and
+// promises the same; where the function below answers an enum, a record with a number for its case stands for it. `exports_c` has them cross to C.
 #![tactic(auto)]
 
 mod answers;
@@ -9,7 +8,9 @@ mod tables;
 mod text;
 
 // Named here so that the theorems of `demands` can speak of their contracts.
-pub use answers::{negwafir_evaluate, negwafir_float_answer, negwafir_judge, negwafir_locate};
+pub use answers::{
+    Judgement, Told, negwafir_evaluate, negwafir_float_answer, negwafir_judge, negwafir_locate,
+};
 pub use numbers::{
     negwafir_between, negwafir_count_within, negwafir_difference, negwafir_floor_div,
     negwafir_nearest_div, negwafir_rise_within, negwafir_unit_within, negwafir_width_within,
@@ -18,7 +19,7 @@ pub use tables::{
     negwafir_build, negwafir_change_point, negwafir_changed_points, negwafir_check, negwafir_points,
 };
 pub use text::{
-    negwafir_append, negwafir_append_natural, negwafir_append_whole, negwafir_append_whole32,
-    negwafir_content, negwafir_count_words, negwafir_find, negwafir_next_word, negwafir_part,
-    negwafir_whole, negwafir_whole32,
+    Read, Read32, Span, negwafir_append, negwafir_append_natural, negwafir_append_whole,
+    negwafir_append_whole32, negwafir_content, negwafir_count_words, negwafir_find,
+    negwafir_next_word, negwafir_part, negwafir_whole, negwafir_whole32,
 };

@@ -8,22 +8,19 @@ ghost use Rattle.change.specs.Change.{Changed};
 use rules::Refusal;
 use table::Change;
 
-#[unsafe(no_mangle)]
-pub extern "C" fn negwafir_points(s: u32, knots: &[i32], values: &[i32], slopes: &[i32]) -> Refusal
+pub fn negwafir_points(s: u32, knots: &[i32], values: &[i32], slopes: &[i32]) -> Refusal
     ensures { Given (Holds (table s knots.now values.now slopes.now)) build_order result.number result.place }
 {
     table::points(s, knots, values, slopes)
 }
 
-#[unsafe(no_mangle)]
-pub extern "C" fn negwafir_check(s: u32, knots: &[i32], values: &[i32], slopes: &[i32]) -> Refusal
+pub fn negwafir_check(s: u32, knots: &[i32], values: &[i32], slopes: &[i32]) -> Refusal
     ensures { Given (Holds (table s knots.now values.now slopes.now)) check_order result.number result.place }
 {
     table::check(s, knots, values, slopes)
 }
 
-#[unsafe(no_mangle)]
-pub extern "C" fn negwafir_changed_points(
+pub fn negwafir_changed_points(
     s: u32,
     knots: &[i32],
     values: &[i32],
@@ -35,20 +32,13 @@ pub extern "C" fn negwafir_changed_points(
     table::changed_points(s, knots, values, slopes, change)
 }
 
-#[unsafe(no_mangle)]
-pub extern "C" fn negwafir_build(
-    s: u32,
-    knots: &[i32],
-    values: &[i32],
-    slopes: &mut [i32],
-) -> Refusal
+pub fn negwafir_build(s: u32, knots: &[i32], values: &[i32], slopes: &mut [i32]) -> Refusal
     ensures { Built (table s knots.now values.now slopes.old) slopes.new result.number result.place }
 {
     slopes::build(s, knots, values, slopes)
 }
 
-#[unsafe(no_mangle)]
-pub extern "C" fn negwafir_change_point(
+pub fn negwafir_change_point(
     s: u32,
     knots: &mut [i32],
     values: &mut [i32],

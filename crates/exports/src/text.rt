@@ -41,30 +41,26 @@ pub struct Read32 {
     pub value: i32,
 }
 
-#[unsafe(no_mangle)]
-pub extern "C" fn negwafir_find(bytes: &[u8], from: usize, byte: u8) -> usize
+pub fn negwafir_find(bytes: &[u8], from: usize, byte: u8) -> usize
     ensures { result ≡ first_of byte bytes.now from }
 {
     words::find(bytes, from, byte)
 }
 
 // The content begins where the line does.
-#[unsafe(no_mangle)]
-pub extern "C" fn negwafir_content(line: &[u8]) -> usize
+pub fn negwafir_content(line: &[u8]) -> usize
     ensures { result ≡ length (without_return line.now) }
 {
     words::content(line).len()
 }
 
-#[unsafe(no_mangle)]
-pub extern "C" fn negwafir_append(into: &mut [u8], held: usize, more: &[u8]) -> usize
+pub fn negwafir_append(into: &mut [u8], held: usize, more: &[u8]) -> usize
     ensures { Appended into.old held more.now into.new result }
 {
     words::append(into, held, more)
 }
 
-#[unsafe(no_mangle)]
-pub extern "C" fn negwafir_next_word(line: &[u8], from: usize) -> Span
+pub fn negwafir_next_word(line: &[u8], from: usize) -> Span
     ensures { WordAs (next_word line.now from) result.found result.start result.end }
 {
     match words::next_word(line, from) {
@@ -81,23 +77,20 @@ pub extern "C" fn negwafir_next_word(line: &[u8], from: usize) -> Span
     }
 }
 
-#[unsafe(no_mangle)]
-pub extern "C" fn negwafir_count_words(line: &[u8], from: usize) -> usize
+pub fn negwafir_count_words(line: &[u8], from: usize) -> usize
     ensures { result ≡ length (words_of (drop from line.now)) }
 {
     words::count(line, from)
 }
 
 // The part, where it has a byte, begins at `start`.
-#[unsafe(no_mangle)]
-pub extern "C" fn negwafir_part(line: &[u8], start: usize, end: usize) -> usize
+pub fn negwafir_part(line: &[u8], start: usize, end: usize) -> usize
     ensures { result ≡ length (part_of line.now start end) }
 {
     words::part(line, start, end).len()
 }
 
-#[unsafe(no_mangle)]
-pub extern "C" fn negwafir_whole(text: &[u8]) -> Read
+pub fn negwafir_whole(text: &[u8]) -> Read
     ensures { NumberAs (number_of text.now) result.kind result.value }
 {
     match decimals::whole(text) {
@@ -113,8 +106,7 @@ pub extern "C" fn negwafir_whole(text: &[u8]) -> Read
     }
 }
 
-#[unsafe(no_mangle)]
-pub extern "C" fn negwafir_whole32(text: &[u8]) -> Read32
+pub fn negwafir_whole32(text: &[u8]) -> Read32
     ensures { Number32As (number32_of text.now) result.kind result.value }
 {
     match decimals::whole32(text) {
@@ -130,22 +122,19 @@ pub extern "C" fn negwafir_whole32(text: &[u8]) -> Read32
     }
 }
 
-#[unsafe(no_mangle)]
-pub extern "C" fn negwafir_append_natural(into: &mut [u8], held: usize, n: u64) -> usize
+pub fn negwafir_append_natural(into: &mut [u8], held: usize, n: u64) -> usize
     ensures { Appended into.old held (decimal_of n) into.new result }
 {
     decimals::append_natural(into, held, n)
 }
 
-#[unsafe(no_mangle)]
-pub extern "C" fn negwafir_append_whole(into: &mut [u8], held: usize, n: i64) -> usize
+pub fn negwafir_append_whole(into: &mut [u8], held: usize, n: i64) -> usize
     ensures { Appended into.old held (text_of n) into.new result }
 {
     decimals::append_whole(into, held, n)
 }
 
-#[unsafe(no_mangle)]
-pub extern "C" fn negwafir_append_whole32(into: &mut [u8], held: usize, n: i32) -> usize
+pub fn negwafir_append_whole32(into: &mut [u8], held: usize, n: i32) -> usize
     ensures { Appended into.old held (text_of n) into.new result }
 {
     decimals::append_whole32(into, held, n)

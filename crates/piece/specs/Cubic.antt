@@ -3,7 +3,8 @@ use Rattle.std.specs.Prelude.{◌≡◌, refl, ℤ, pos, ◌+ℤ◌, ◌-ℤ◌,
 use Rattle.std.proofs.Common.{◌∙◌}
 use Rattle.integers.specs.Arguments.{same₄}
 use Rattle.cubic.specs.Value.{numerator}
-use Rattle.cubic.specs.Horner.{by_horner, horner}
+use Rattle.cubic.specs.Horner.{by_horner}
+use Rattle.cubic.proofs.Horner.{horner}
 
 pub record UnitsOf (U h z m n Z a b : ℤ) : Type 0 where
   pub rise_is : Z ≡ U *ℤ z

@@ -2,7 +2,7 @@
 use Rattle.std.proofs.Common.{⊎_elim}
 use Rattle.std.specs.Prelude.{ℕ, zero, suc, ℤ, pos, negsuc}
 use Rattle.integers.specs.Decided.{between_or_not}
-use Rattle.cubic.specs.Decided.{monotone_or_not}
+use Rattle.cubic.proofs.Decided.{monotone_or_not}
 use Rattle.rules.specs.Limits.{unit, UnitWithin, WidthWithin, RiseWithin}
 use Rattle.rules.specs.Found.{unit_or_not}
 use Rattle.piece.specs.Promise.{ruling, none, ruling_of, leaning, Judged, unit_refused, width_refused, rise_refused, monotone, bent}

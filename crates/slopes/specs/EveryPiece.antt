@@ -4,7 +4,7 @@ use Rattle.std.proofs.Common.{sym, ◌∙◌, ap, subst, subst₂, arith}
 use Rattle.rules.specs.Refusals.{Given, done, passed}
 use Rattle.rules.specs.Order.{went_on}
 use Rattle.cubic.specs.Piece.{Monotone}
-use Rattle.cubic.specs.Fair.{fair_monotone}
+use Rattle.cubic.proofs.Fair.{fair_monotone}
 use Rattle.rules.specs.Limits.{unit, UnitWithin}
 use Rattle.rules.specs.Known.{unit_size, 0<_unit, 0<_width}
 use Rattle.table.specs.Table.{Table, table, step, MonotoneAt, Holds, not_monotone, check_order}

@@ -1,7 +1,8 @@
 -- The slopes built at a piece's two points are fair to it.
 use Rattle.std.specs.Prelude.{◌≡◌, List, ℕ, suc, ◌+◌, ◌-◌, ◌<◌, ℤ, pos, ◌<ℤ◌, length}
 use Rattle.std.proofs.Common.{◌∙◌, ap, subst, ⊎_elim, eq-or-lt_of_le, eq-zero-or-pos, arith}
-use Rattle.cubic.specs.Fair.{Fair, secant_fair, end_fair, inner_fair, inner_mirrored}
+use Rattle.cubic.specs.Fair.{Fair}
+use Rattle.cubic.proofs.Fair.{secant_fair, end_fair, inner_fair, inner_mirrored}
 use Rattle.table.specs.Table.{step}
 use Rattle.table.specs.Accepted.{PointsWithin}
 use Rattle.rules.specs.Known.{0<_width}

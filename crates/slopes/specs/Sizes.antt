@@ -8,8 +8,9 @@ use Rattle.integers.specs.Linear.{lin, says}
 use Rattle.integers.specs.Order.{≤ℤ_trans, <ℤ→≤ℤ, 0≤_number, 0≤_gap, 0<_product, at_most, pos-≤, signs}
 use Rattle.integers.specs.Within.{Within, within, within_minus}
 use Rattle.cubic.specs.Slopes.{mean, end_slope}
-use Rattle.cubic.specs.Inner.{inner_up}
-use Rattle.cubic.specs.Fair.{Fair, end_fair, inner_fair}
+use Rattle.cubic.proofs.Inner.{inner_up}
+use Rattle.cubic.specs.Fair.{Fair}
+use Rattle.cubic.proofs.Fair.{end_fair, inner_fair}
 use Rattle.rules.specs.Limits.{WidthWithin, RiseWithin}
 use Rattle.rules.specs.Known.{UnitSize, 0<_unit, in_256ths, 0<_width, rise_size}
 

@@ -2,7 +2,7 @@
 use Rattle.std.specs.Prelude.{◌≡◌, refl, List, [], ◌∷◌, ℕ, ◌+◌, ◌≤◌, ◌<◌, ℤ, length}
 use Rattle.std.proofs.Common.{arith}
 use Rattle.integers.specs.Decided.{stable, between_or_not}
-use Rattle.cubic.specs.Monotone.{monotone_stable}
+use Rattle.cubic.proofs.Monotone.{monotone_stable}
 use Rattle.rules.specs.Limits.{UnitWithin, CountWithin, WidthWithin, RiseWithin}
 use Rattle.rules.specs.Found.{unit_or_not}
 use Rattle.rules.specs.Refusals.{Given, done, passed}

@@ -3,7 +3,7 @@ use Rattle.std.specs.Prelude.{◌≡◌, refl, [], ◌∷◌, ◌⊎◌, ℕ, �
 use Rattle.std.proofs.Common.{⊎_elim, arith}
 use Rattle.std.proofs.Math.Decide.{ℕ_discrete, dec_le, dec_lt}
 use Rattle.integers.specs.Decided.{or_not, alike_or_not, both_or_not, fails_or_not, between_or_not}
-use Rattle.cubic.specs.Decided.{monotone_or_not}
+use Rattle.cubic.proofs.Decided.{monotone_or_not}
 use Rattle.rules.specs.Limits.{UnitWithin, CountWithin, WidthWithin, RiseWithin}
 use Rattle.rules.specs.Found.{unit_or_not, Searched, searched_at_0, searched_below, SomeGiven, none, also, found, found_on, found_as}
 use Rattle.table.specs.declared.changed.Change.{Change}

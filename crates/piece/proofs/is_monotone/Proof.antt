@@ -9,7 +9,7 @@ use Rattle.integers.specs.Within.{Within}
 use Rattle.integers.specs.Sizes.{Known, known, held, sized, code}
 use Rattle.integers.specs.Arguments.{arguments, same₄, as_coded₁, plainly₂, plainly₃, plainly₅, as_coded₃}
 use Rattle.cubic.specs.Piece.{NeverAgainst}
-use Rattle.cubic.specs.OneTest.{Turned, turned_accepts, turned_complete}
+use Rattle.cubic.proofs.OneTest.{Turned, turned_accepts, turned_complete}
 use Rattle.rules.specs.Known.{UnitSize, known_unit, known_width, known_rise}
 use Rattle.piece.specs.Sizes.{WithSign, as_large, Moderate}
 use Rattle.piece.specs.Cubic.{UnitsOf}

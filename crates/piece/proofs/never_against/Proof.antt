@@ -14,8 +14,9 @@ use Rattle.integers.specs.Linear.{lin, says}
 use Rattle.integers.specs.Within.{Within, within, within_high}
 use Rattle.integers.specs.Sizes.{Known, known, fits, sized, code}
 use Rattle.integers.specs.Arguments.{arguments, plainly₃, as_coded₃}
-use Rattle.cubic.specs.Never.{start_not_against, end_not_against, start_below_four, end_below_four}
-use Rattle.cubic.specs.OneTest.{SquareWithin, square_accepts, square_complete}
+use Rattle.cubic.proofs.Never.{start_not_against, end_not_against, start_below_four, end_below_four}
+use Rattle.cubic.specs.OneTest.{SquareWithin}
+use Rattle.cubic.proofs.OneTest.{square_accepts, square_complete}
 use Rattle.piece.proofs.never_against.Statement.{statement}
 use Rattle.piece.proofs.never_against.Tie as tie
 

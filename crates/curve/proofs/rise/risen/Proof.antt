@@ -10,8 +10,8 @@ use Rattle.integers.specs.Nearest.{rounded_is, one_rounded}
 use Rattle.integers.specs.Sizes.{Known, known, held, fits, sized, plain_is, code, returned}
 use Rattle.integers.specs.Arguments.{arguments, plainly₂, plainly₅, as_coded₁, as_coded₂, as_coded₃}
 use Rattle.cubic.specs.Value.{numerator, denominator}
-use Rattle.cubic.specs.InOrder.{the_cubic_is_within}
-use Rattle.cubic.specs.Small.{monotone_small}
+use Rattle.cubic.proofs.InOrder.{the_cubic_is_within}
+use Rattle.cubic.proofs.Small.{monotone_small}
 use Rattle.rules.specs.Limits.{WidthWithin, RiseWithin}
 use Rattle.rules.specs.Known.{UnitSize, known_unit, known_width, known_rise, known_inside}
 use Rattle.piece.specs.Cubic.{Coefficients, by_coefficients}

@@ -11,7 +11,7 @@ use Rattle.integers.specs.Sizes.{Known, known, fits, plain_is, code}
 use Rattle.integers.specs.Tests.{tests, passed, failed}
 use Rattle.integers.specs.Arguments.{arguments, plainly₅, as_coded₁, as_coded₂}
 use Rattle.cubic.specs.Slopes.{end_slope}
-use Rattle.cubic.specs.End.{end_turned}
+use Rattle.cubic.proofs.End.{end_turned}
 use Rattle.rules.specs.Known.{UnitSize, known_unit, known_width, known_rise}
 use Rattle.slopes.specs.Sizes.{PieceWithin, End, turned, end_within}
 use Rattle.slopes.proofs.rule.end.Statement.{statement}

@@ -11,7 +11,7 @@ use Rattle.integers.specs.Sizes.{Known, known, fits, plain_is, code}
 use Rattle.integers.specs.Tests.{tests, passed, passed_at_most, failed}
 use Rattle.integers.specs.Arguments.{arguments, plainly₅, as_coded₁, as_coded₂, as_coded₃}
 use Rattle.cubic.specs.Slopes.{mean}
-use Rattle.cubic.specs.Inner.{inner_level, both_up, inner_up, both_down, inner_down}
+use Rattle.cubic.proofs.Inner.{inner_level, both_up, inner_up, both_down, inner_down}
 use Rattle.rules.specs.Known.{UnitSize, known_unit, known_width, known_rise}
 use Rattle.slopes.specs.Sizes.{Up, Product, Mean, turned, mean_within}
 use Rattle.slopes.proofs.rule.inner.Statement.{statement}

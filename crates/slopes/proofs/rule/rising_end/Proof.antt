@@ -11,7 +11,7 @@ use Rattle.integers.specs.Division.{positive_bits, quot_toward, toward_floor}
 use Rattle.integers.specs.Sizes.{Known, known, listed, first, fits, plain_is, code}
 use Rattle.integers.specs.Tests.{tests, passed, passed_at_most, failed, zeros, not_zero}
 use Rattle.cubic.specs.Slopes.{end_above, end_below, end_slope}
-use Rattle.cubic.specs.End.{0<_end_below, rising_level, rising_bound, rising_quotient}
+use Rattle.cubic.proofs.End.{0<_end_below, rising_level, rising_bound, rising_quotient}
 use Rattle.rules.specs.Known.{known_unit, 0<_unit, known_width, known_rise, 0<_width}
 use Rattle.slopes.specs.Sizes.{end_within}
 use Rattle.slopes.proofs.rule.rising_end.Statement.{statement}

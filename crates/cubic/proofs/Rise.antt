@@ -7,7 +7,7 @@ use Rattle.integers.specs.Ring.{ring, quote}
 use Rattle.integers.specs.Linear.{lin, says}
 use Rattle.integers.specs.Order.{at_most, signs, 0≤_as, 0≤_cancel, ≤ℤ_trans}
 use Rattle.cubic.specs.Piece.{slope_at, rise_at, NeverAgainst}
-use Rattle.cubic.specs.Never.{at_fraction}
+use Rattle.cubic.proofs.Never.{at_fraction}
 
 pub simpson : (Z a b j k q : ℤ) → pos 6 *ℤ (rise_at Z a b k q -ℤ rise_at Z a b j q) ≡ (k -ℤ j) *ℤ (slope_at Z a b j q +ℤ slope_at Z a b (j +ℤ k) (pos 2 *ℤ q) +ℤ slope_at Z a b k q)
 simpson Z a b j k q = ring (Z ∷ a ∷ b ∷ j ∷ k ∷ q ∷ []) (search quote depth 30 fits 9000) tt

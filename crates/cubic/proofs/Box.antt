@@ -5,7 +5,7 @@ use Rattle.integers.specs.Ring.{ring, quote}
 use Rattle.integers.specs.Linear.{lin, says}
 use Rattle.integers.specs.Order.{at_most, signs, 0≤_number, 0≤_gap, 0≤_plus, 0<_product, <ℤ→≤ℤ, ≤ℤ_cancel, pos-≤}
 use Rattle.cubic.specs.Piece.{NeverAgainst}
-use Rattle.cubic.specs.Slope.{in_box}
+use Rattle.cubic.proofs.Slope.{in_box}
 use Rattle.cubic.specs.Slopes.{mean_below}
 
 pub box_accepts : {Z a b : ℤ} → pos 0 <ℤ Z → pos 0 ≤ℤ a → pos 0 ≤ℤ b → a ≤ℤ (pos 3 *ℤ Z) → b ≤ℤ (pos 3 *ℤ Z) → NeverAgainst Z a b

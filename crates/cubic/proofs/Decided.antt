@@ -6,9 +6,10 @@ use Rattle.integers.specs.Signs.{by_sign}
 use Rattle.integers.specs.Decided.{alike_or_not, both_or_not, ≤ℤ_or_not, ≡ℤ_or_not}
 use Rattle.cubic.specs.Piece.{NeverAgainst, Monotone}
 use Rattle.cubic.specs.Slope.{over}
-use Rattle.cubic.specs.Never.{start_not_against, end_not_against}
-use Rattle.cubic.specs.Test.{line, oval, short_accepts, in_oval}
-use Rattle.cubic.specs.Monotone.{monotone_rising, monotone_falling, monotone_level}
+use Rattle.cubic.proofs.Never.{start_not_against, end_not_against}
+use Rattle.cubic.specs.Test.{line, oval}
+use Rattle.cubic.proofs.Test.{short_accepts, in_oval}
+use Rattle.cubic.proofs.Monotone.{monotone_rising, monotone_falling, monotone_level}
 
 never_against_or_not : (Z a b : ℤ) → NeverAgainst Z a b ⊎ (NeverAgainst Z a b → ⊥)
 never_against_or_not Z a b = ⊎_elim under above (≤ℤ_or-<ℤ (over Z a b) (pos 0))

@@ -8,10 +8,10 @@ use Rattle.integers.specs.Order.{0<→1≤}
 use Rattle.integers.specs.Within.{Within}
 use Rattle.cubic.specs.Piece.{rise_at, Monotone}
 use Rattle.cubic.specs.Value.{rounded, risen}
-use Rattle.cubic.specs.Rounded.{rounding, 0<_denominator}
+use Rattle.cubic.proofs.Rounded.{rounding, 0<_denominator}
 use Rattle.cubic.specs.Along.{Along, along_through, part_within}
-use Rattle.cubic.specs.Monotone.{level_numbers}
-use Rattle.cubic.specs.Rise.{in_order, turned_over, at_left, at_right}
+use Rattle.cubic.proofs.Monotone.{level_numbers}
+use Rattle.cubic.proofs.Rise.{in_order, turned_over, at_left, at_right}
 
 -- without a rise the cubic is 0 throughout
 nothing : {Z a b : ℤ} → (Z ≡ pos 0) × ((a ≡ pos 0) × (b ≡ pos 0)) → (t q : ℤ) → rise_at Z a b t q ≡ pos 0

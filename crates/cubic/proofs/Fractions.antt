@@ -6,7 +6,7 @@ use Rattle.integers.specs.Ring.{ring, quote}
 use Rattle.integers.specs.Order.{at_most, signs, 0<_product, 0<→1≤, 1≤→0<, <ℤ→≤ℤ}
 use Rattle.cubic.specs.Piece.{rise_at, Monotone}
 use Rattle.cubic.specs.Along.{Along}
-use Rattle.cubic.specs.InOrder.{the_cubic_is_in_order}
+use Rattle.cubic.proofs.InOrder.{the_cubic_is_in_order}
 
 -- the cubic at k·c / q·c is that at k/q, times c³
 pub widened : (Z a b k q c : ℤ) → rise_at Z a b (k *ℤ c) (q *ℤ c) ≡ rise_at Z a b k q *ℤ (c *ℤ c *ℤ c)

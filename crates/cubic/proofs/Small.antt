@@ -6,8 +6,9 @@ use Rattle.integers.specs.Signs.{by_sign}
 use Rattle.integers.specs.Within.{Within, within_minus, minus_within}
 use Rattle.integers.specs.Arguments.{same₄}
 use Rattle.cubic.specs.Piece.{Monotone}
-use Rattle.cubic.specs.Never.{SmallCoefficients, small_coefficients}
-use Rattle.cubic.specs.Monotone.{level_numbers}
+use Rattle.cubic.specs.Never.{SmallCoefficients}
+use Rattle.cubic.proofs.Never.{small_coefficients}
+use Rattle.cubic.proofs.Monotone.{level_numbers}
 
 -- upside down they are as small
 over : {M : ℕ} {Z a b : ℤ} → SmallCoefficients M (neg_ℤ Z) (neg_ℤ a) (neg_ℤ b) → SmallCoefficients M Z a b

@@ -1,0 +1,16 @@
+pub mod Slope
+pub mod Never
+pub mod Test
+pub mod OneTest
+pub mod Monotone
+pub mod Rise
+pub mod Horner
+pub mod Rounded
+pub mod InOrder
+pub mod Fractions
+pub mod Small
+pub mod Box
+pub mod Inner
+pub mod End
+pub mod Fair
+pub mod Decided
