@@ -25,8 +25,8 @@ archive := $(there)/lib/libnegwafir.a
 header := $(there)/include/negwafir.h
 config := $(there)/lib/pkgconfig/negwafir.pc
 
-# With the folders, which are newer where a file was taken away.
-sources := $(shell find crates crates.txt)
+# With the folders, which are newer where a file was taken away; but not what the kit makes, nor the folders in which it does.
+sources := $(shell find crates crates.txt -maxdepth 0; find crates -mindepth 2 -name out -prune -o -print)
 
 .PHONY: library install uninstall
 .DELETE_ON_ERROR:
@@ -38,8 +38,8 @@ $(library): $(sources)
 	@command -v rt >/dev/null || { echo "make: there is no rt on the PATH; put the bin folder of the Rattle kit on it" >&2; exit 1; }
 	@mkdir -p $(@D) && touch $(@D)/began
 	@echo "make: proving and building the library, seconds, or some minutes on first use .." >&2
-	@tools/prove make staticlib exports || { echo "make: the library is not proved; what rt staticlib said is above" >&2; exit 1; }
-	@cp target/staticlib/libexports.a $@ && touch -r $(@D)/began $@
+	@tools/prove make lib exports_c || { echo "make: the library is not proved; what rt lib said is above" >&2; exit 1; }
+	@cp crates/exports_c/out/libexports_c.a $@ && touch -r $(@D)/began $@
 
 install: $(library)
 	install -D -m 644 $(library) '$(archive)'
