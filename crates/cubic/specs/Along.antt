@@ -58,9 +58,12 @@ amid {l} {r} {w} a b =
     level : (l r w : ℤ) → r -ℤ l ≡ pos 0 → pos 0 ≡ w → (l ≤ℤ (l +ℤ w)) × ((l +ℤ w) ≤ℤ r)
     level l r w = lin (l ∷ r ∷ w ∷ []) (search says depth 30 fits 9000) (omega arith)
 
--- and on the way from 0 to y it is not larger than y
+-- what lies on the way from 0 to y is not larger than y
 pub part_within : {M : ℕ} {z w y : ℤ} → Within M y → Along z (pos 0) w → Along z w y → Within M w
-part_within {M} {w = w} {y} h a b = either (amid_on_the_way a b)
+part_within {M} {z} {w} {y} h a b =
+    by_sign z (λ p. let s = up w y (a.rising p) (b.rising p) (within_high h) in within M w s.0 s.1)
+    (λ p. let s = down w y (a.falling p) (b.falling p) (within_low h) in within M w s.0 s.1)
+    (λ e. let s = level w (a.level e) in within M w s.0 s.1)
   where
     up : (w y : ℤ) → pos 0 ≤ℤ w → w ≤ℤ y → y ≤ℤ pos M → (neg_ℤ (pos M) ≤ℤ w) × (w ≤ℤ pos M)
     up w y = lin (w ∷ y ∷ []) (search says depth 30 fits 9000) (omega arith)
@@ -68,6 +71,5 @@ part_within {M} {w = w} {y} h a b = either (amid_on_the_way a b)
     down : (w y : ℤ) → w ≤ℤ pos 0 → y ≤ℤ w → neg_ℤ (pos M) ≤ℤ y → (neg_ℤ (pos M) ≤ℤ w) × (w ≤ℤ pos M)
     down w y = lin (w ∷ y ∷ []) (search says depth 30 fits 9000) (omega arith)
 
-    either : Amid (pos 0) w y → Within M w
-    either (upwards s) = let both = up w y s.low s.high (within_high h) in within M w both.0 both.1
-    either (downwards s) = let both = down w y s.high s.low (within_low h) in within M w both.0 both.1
+    level : (w : ℤ) → pos 0 ≡ w → (neg_ℤ (pos M) ≤ℤ w) × (w ≤ℤ pos M)
+    level w = lin (w ∷ []) (search says depth 30 fits 9000) (omega arith)

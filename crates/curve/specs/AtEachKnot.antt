@@ -1,7 +1,7 @@
 -- "It [..] equals the value at each knot."
-use Rattle.std.specs.Prelude.{◌≡◌, refl, ℕ, zero, suc, ◌+◌, ◌<◌, ℤ, ◌+ℤ◌, length}
+use Rattle.std.specs.Prelude.{◌≡◌, refl, [], ◌∷◌, ℕ, zero, suc, ◌+◌, ◌<◌, ℤ, pos, ◌+ℤ◌, ◌-ℤ◌, length}
 use Rattle.std.proofs.Common.{◌∙◌, ap, subst, ⊎_elim, eq-or-lt_of_le, arith}
-use Rattle.std.proofs.Math.IntN.{+ℤ_idr, +ℤ_invr}
+use Rattle.integers.specs.Linear.{lin, says}
 use Rattle.integers.specs.Order.{across}
 use Rattle.cubic.specs.Value.{risen}
 use Rattle.cubic.proofs.InOrder.{risen_at_left, risen_at_right}
@@ -19,9 +19,15 @@ module _ {t : Table} (a : Accepted t) where
   -- at the left end of a piece, and at its right end
   pub at_left : (i : ℕ) → i + 1 < length t.knots → value_on t i (entry t.knots i) ≡ entry t.values i
   at_left i l =
-      ap (λ (c : ℤ). entry t.values i +ℤ risen (unit t.s) (step t.knots i) (step t.values i) (entry t.slopes i) (entry t.slopes (i + 1)) c) (+ℤ_invr (entry t.knots i))
+      ap (λ (c : ℤ). entry t.values i +ℤ risen (unit t.s) (step t.knots i) (step t.values i) (entry t.slopes i) (entry t.slopes (i + 1)) c) (nothing (entry t.knots i))
       ∙ ap (λ (w : ℤ). entry t.values i +ℤ w) (risen_at_left (0<_unit (unit_size a.unit)) (0<_width (a.limits.widths i l)) (step t.values i) (entry t.slopes i) (entry t.slopes (i + 1)))
-      ∙ +ℤ_idr (entry t.values i)
+      ∙ none (entry t.values i)
+    where
+      nothing : (x : ℤ) → x -ℤ x ≡ pos 0
+      nothing x = lin (x ∷ []) (search says depth 30 fits 9000) (omega arith)
+
+      none : (x : ℤ) → x +ℤ pos 0 ≡ x
+      none x = lin (x ∷ []) (search says depth 30 fits 9000) (omega arith)
 
   pub at_right : (i : ℕ) → i + 1 < length t.knots → value_on t i (entry t.knots (i + 1)) ≡ entry t.values (i + 1)
   at_right i l =

@@ -1,5 +1,5 @@
 -- The user's three demands, word for word, as requests 2, 6 and 8 of document 02 amend them, as predicates of any implementation, and what document 01 says of answers beside them.
--- This file has no proof: it can be read from top to bottom. `Met.antt` shows that ours meets them, as Rattle functions and as the library for C; `NothingElse.antt` that whatever meets them answers as ours does; and
+-- This file has no proof: it can be read from top to bottom. `BothMeet.antt` shows that ours meets them, as Rattle functions and as the library for C; `NothingElse.antt` that whatever meets them answers as ours does; and
 -- `Wrong1.antt`, `Wrong2.antt`, `WrongEnds.antt`, `WrongUnits.antt`, `Wrong3.antt` and `Wrong01.antt` of wrong programs that they do not. What follows from the demands and has a file of its own, in the same words and without a proof:
 --   `NeverBacksUp.antt`           request 10 of document 02: on no piece does the arm go against the rise, whoever proposed the slopes, and after whatever changes
 --
@@ -33,7 +33,7 @@
 --   Floor n d q                   q is n/d rounded down: q·d ≤ n < (q + 1)·d
 --   magnitude x, with_sign z x     x without its sign; x with the sign of z
 --   ToldAt t x a                  a is what the drive is to be told at x: on a flat piece a dwell at its value, on any other a move of three exact floats (`Drive.antt`)
--- `Met.antt` also has the words in which our own functions promise what they do. They are not used here: `Given` says which number and place an order of causes gives, `Judged`, `Built`,
+-- `BothMeet.antt` also has the words in which our own functions promise what they do. They are not used here: `Given` says which number and place an order of causes gives, `Judged`, `Built`,
 -- `Located`, `Evaluated`, `Driving` and `Changed` what comes out of a verdict, a build, .. and a change, and `Chain` that a list of such changes is made one after another.
 use Rattle.std.specs.Prelude.{◌≡◌, ◌↔◌, ◌⊎◌, List, [], ◌∷◌, ◌++◌, ℕ, ◌+◌, ◌<◌, ◌≤◌, ℤ, pos, negsuc, ◌+ℤ◌, ◌-ℤ◌, ◌*ℤ◌, ◌≤ℤ◌, ◌<ℤ◌, length}
 use Rattle.std.specs.Int.{w32}
@@ -57,7 +57,7 @@ use Rattle.change.specs.Change.{Renews}
 pub data Call : Type 0 where
   judge : (s : ℕ) (h z m n : ℤ) → Call
   points build check : Table → Call
-  locate evaluate float-answer : Table → (position : ℤ) → Call
+  locate evaluate float_answer : Table → (position : ℤ) → Call
   changed_points : Change → Table → Call
   point : (made : List Change) → Change → Table → Call
 
@@ -69,7 +69,7 @@ Reply (build t) = Unit
 Reply (check t) = Unit
 Reply (locate t x) = ℕ
 Reply (evaluate t x) = ℤ
-Reply (float-answer t x) = Telling
+Reply (float_answer t x) = Telling
 Reply (changed_points c t) = Unit
 Reply (point made c t) = Unit
 
@@ -82,20 +82,20 @@ Lists (points t) = Unit
 Lists (check t) = Unit
 Lists (locate t x) = Unit
 Lists (evaluate t x) = Unit
-Lists (float-answer t x) = Unit
+Lists (float_answer t x) = Unit
 Lists (changed_points c t) = Unit
 
 -- as they are at the call
-abbrev pub to_change : (call : Call) → Lists call
-to_change (build t) = t.slopes
-to_change (point made c t) = t
-to_change (judge s h z m n) = tt
-to_change (points t) = tt
-to_change (check t) = tt
-to_change (locate t x) = tt
-to_change (evaluate t x) = tt
-to_change (float-answer t x) = tt
-to_change (changed_points c t) = tt
+abbrev pub lent : (call : Call) → Lists call
+lent (build t) = t.slopes
+lent (point made c t) = t
+lent (judge s h z m n) = tt
+lent (points t) = tt
+lent (check t) = tt
+lent (locate t x) = tt
+lent (evaluate t x) = tt
+lent (float_answer t x) = tt
+lent (changed_points c t) = tt
 
 -- What comes out: the number of the refusal, 0 for none, its place, the answer, and these lists when the call returns.
 pub record Outcome (call : Call) : Type 0 where
@@ -119,7 +119,7 @@ order_of (build t) = 12 ∷ 1 ∷ 2 ∷ 3 ∷ 4 ∷ []
 order_of (check t) = 12 ∷ 1 ∷ 2 ∷ 3 ∷ 4 ∷ 5 ∷ []
 order_of (locate t x) = 12 ∷ 1 ∷ 2 ∷ 3 ∷ 4 ∷ 5 ∷ 6 ∷ []
 order_of (evaluate t x) = 12 ∷ 1 ∷ 2 ∷ 3 ∷ 4 ∷ 5 ∷ 6 ∷ []
-order_of (float-answer t x) = 12 ∷ 1 ∷ 2 ∷ 3 ∷ 4 ∷ 5 ∷ 6 ∷ 8 ∷ []
+order_of (float_answer t x) = 12 ∷ 1 ∷ 2 ∷ 3 ∷ 4 ∷ 5 ∷ 6 ∷ 8 ∷ []
 order_of (changed_points c t) = 12 ∷ 1 ∷ 2 ∷ 7 ∷ 3 ∷ 4 ∷ []
 order_of (point made c t) = 12 ∷ 1 ∷ 2 ∷ 7 ∷ 3 ∷ 4 ∷ []
 
@@ -137,7 +137,7 @@ CauseOf (build t) = Holds t
 CauseOf (check t) = Holds t
 CauseOf (locate t x) = HoldsAt t x
 CauseOf (evaluate t x) = HoldsAt t x
-CauseOf (float-answer t x) = HoldsFor t x
+CauseOf (float_answer t x) = HoldsFor t x
 CauseOf (changed_points c t) = HoldsAfter c t
 CauseOf (point made c t) = HoldsAfter c t
 
@@ -171,13 +171,13 @@ pub data LooksAt (t : Table) : Call → Type 0 where
   a_check : LooksAt t (check t)
   a_piece : (x : ℤ) → LooksAt t (locate t x)
   a_value : (x : ℤ) → LooksAt t (evaluate t x)
-  a_float_answer : (x : ℤ) → LooksAt t (float-answer t x)
+  a_float_answer : (x : ℤ) → LooksAt t (float_answer t x)
   its_changed_points : {c : Change} {before : Table} → c.point < length before.knots → changed_by c before ≡ t → LooksAt t (changed_points c before)
   a_change : {made : List Change} {c : Change} {before : Table} → c.point < length before.knots → changed_by c before ≡ t → LooksAt t (point made c before)
 
 -- What may come in: lists of any length that hold any numbers. For a float answer the values are 32-bit ones, as document 01 has them: a float does not hold every number.
 abbrev pub MayComeIn : Call → Type 0
-MayComeIn (float-answer t x) = (i : ℕ) → i < length t.values → SFits w32 (entry t.values i)
+MayComeIn (float_answer t x) = (i : ℕ) → i < length t.values → SFits w32 (entry t.values i)
 MayComeIn (judge s h z m n) = Unit
 MayComeIn (points t) = Unit
 MayComeIn (build t) = Unit
@@ -202,7 +202,7 @@ pub record Demand1 (I : Implementation) : Type 0 where
   pub refused_exactly_then : {call : Call} {o : Outcome call} → I.May call o → (c q : ℕ) → 0 < c → ((o.number ≡ c) × (o.place ≡ q)) ↔ First (CauseOf call) (order_of call) c q
   pub done_at_place_0 : {call : Call} {o : Outcome call} → I.May call o → o.number ≡ 0 → o.place ≡ 0
   -- "and changes no list we lent you."
-  pub changes_no_list : {call : Call} {o : Outcome call} → I.May call o → (o.number ≡ 0 → ⊥) → o.lists ≡ to_change call
+  pub changes_no_list : {call : Call} {o : Outcome call} → I.May call o → (o.number ≡ 0 → ⊥) → o.lists ≡ lent call
 
 -- ======== The second demand
 
@@ -356,7 +356,7 @@ nothing (build t) = tt
 nothing (check t) = tt
 nothing (locate t x) = 0
 nothing (evaluate t x) = pos 0
-nothing (float-answer t x) = resting
+nothing (float_answer t x) = resting
 nothing (changed_points c t) = tt
 nothing (point made c t) = tt
 
@@ -368,4 +368,4 @@ pub record Document01 (I : Implementation) : Type 0 where
   pub the_piece_of_a_position : {t : Table} {x : ℤ} {o : Outcome (locate t x)} → I.May (locate t x) o → o.number ≡ 0 → Belongs t.knots x o.answer
   -- "A flat piece answers a dwell that carries its level as a 64-bit float. Any other answers a move: one record of three 64-bit floats, the left value, the numerator above and
   -- 256·h³.", where U stands for 256
-  pub what_the_drive_is_told : {t : Table} {x : ℤ} {o : Outcome (float-answer t x)} → I.May (float-answer t x) o → o.number ≡ 0 → ToldAt t x o.answer
+  pub what_the_drive_is_told : {t : Table} {x : ℤ} {o : Outcome (float_answer t x)} → I.May (float_answer t x) o → o.number ≡ 0 → ToldAt t x o.answer

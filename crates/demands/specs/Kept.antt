@@ -22,7 +22,7 @@ use Rattle.drive.specs.Drive.{Telling, dwell, move, told_of, Driving}
 use Rattle.change.specs.Change.{Changed}
 use Rattle.exports.specs.declared.answers.Told.{Told}
 use Rattle.exports.specs.Cases.{verdict_number, JudgedAs, judged, DrivenAs, dwells, moves}
-use Rattle.demands.specs.Demands.{Call, judge, points, build, check, locate, evaluate, float-answer, changed_points, point, Outcome, Implementation}
+use Rattle.demands.specs.Demands.{Call, judge, points, build, check, locate, evaluate, float_answer, changed_points, point, Outcome, Implementation}
 use Rattle.demands.specs.Ours.{ours, ours_in-C, ByFloatAnswerC, CrossedAs, a_dwell, a_move}
 
 abbrev pub Promised : (call : Call) → Outcome call → Type 0
@@ -32,7 +32,7 @@ Promised (build t) o = Built t o.lists o.number o.place
 Promised (check t) o = Given (Holds t) check_order o.number o.place
 Promised (locate t x) o = Located t x o.number o.place o.answer
 Promised (evaluate t x) o = Evaluated t x o.number o.place o.answer
-Promised (float-answer t x) o = Driving t x o.number o.place o.answer
+Promised (float_answer t x) o = Driving t x o.number o.place o.answer
 Promised (changed_points c t) o = Given (HoldsAfter c t) change_order o.number o.place
 Promised (point made c t) o = Changed c t o.lists o.number o.place
 
@@ -42,14 +42,14 @@ pub record Keeps (I : Implementation) : Type 0 where
   pub free : (call : Call) → I.Asks call
 
 -- what holds of each kind of call holds of every one
-each_call : (P : Call → Type 0) → ((s : ℕ) (h z m n : ℤ) → P (judge s h z m n)) → ((t : Table) → P (points t)) → ((t : Table) → P (build t)) → ((t : Table) → P (check t)) → ((t : Table) (x : ℤ) → P (locate t x)) → ((t : Table) (x : ℤ) → P (evaluate t x)) → ((t : Table) (x : ℤ) → P (float-answer t x)) → ((c : Change) (t : Table) → P (changed_points c t)) → ((made : List Change) (c : Change) (t : Table) → P (point made c t)) → (call : Call) → P call
+each_call : (P : Call → Type 0) → ((s : ℕ) (h z m n : ℤ) → P (judge s h z m n)) → ((t : Table) → P (points t)) → ((t : Table) → P (build t)) → ((t : Table) → P (check t)) → ((t : Table) (x : ℤ) → P (locate t x)) → ((t : Table) (x : ℤ) → P (evaluate t x)) → ((t : Table) (x : ℤ) → P (float_answer t x)) → ((c : Change) (t : Table) → P (changed_points c t)) → ((made : List Change) (c : Change) (t : Table) → P (point made c t)) → (call : Call) → P call
 each_call O J P B C L E F D Q (judge s h z m n) = J s h z m n
 each_call O J P B C L E F D Q (points t) = P t
 each_call O J P B C L E F D Q (build t) = B t
 each_call O J P B C L E F D Q (check t) = C t
 each_call O J P B C L E F D Q (locate t x) = L t x
 each_call O J P B C L E F D Q (evaluate t x) = E t x
-each_call O J P B C L E F D Q (float-answer t x) = F t x
+each_call O J P B C L E F D Q (float_answer t x) = F t x
 each_call O J P B C L E F D Q (changed_points c t) = D c t
 each_call O J P B C L E F D Q (point made c t) = Q made c t
 
@@ -84,7 +84,7 @@ ours_keeps = record { promised = promised; allowed = allowed; free = each_call o
     promised (check t) o p = p
     promised (locate t x) o p = p
     promised (evaluate t x) o p = p
-    promised (float-answer t x) o p = subst (Driving t x o.number o.place) p.says p.promised
+    promised (float_answer t x) o p = subst (Driving t x o.number o.place) p.says p.promised
     promised (changed_points c t) o p = p
     promised (point made c t) o p = with_its_unit p.the_unit p.promised
 
@@ -95,7 +95,7 @@ ours_keeps = record { promised = promised; allowed = allowed; free = each_call o
     allowed (check t) o p = p
     allowed (locate t x) o p = p
     allowed (evaluate t x) o p = p
-    allowed (float-answer t x) o p = let r = case_of o.answer in record { told = r.0; says = r.1; promised = subst (Driving t x o.number o.place) (sym r.1) p }
+    allowed (float_answer t x) o p = let r = case_of o.answer in record { told = r.0; says = r.1; promised = subst (Driving t x o.number o.place) (sym r.1) p }
     allowed (changed_points c t) o p = p
     allowed (point made c t) o p = record { promised = without_it p; the_unit = p.unit_kept }
 
@@ -152,7 +152,7 @@ ours_in-C_keeps = record { promised = promised; allowed = allowed; free = each_c
     promised (check t) o p = p
     promised (locate t x) o p = p
     promised (evaluate t x) o p = p
-    promised (float-answer t x) o p = subst (λ (r : Refusal). Driving t x r.number r.place o.answer) p.refused_by (crossed p.says p.promised)
+    promised (float_answer t x) o p = subst (λ (r : Refusal). Driving t x r.number r.place o.answer) p.refused_by (crossed p.says p.promised)
     promised (changed_points c t) o p = p
     promised (point made c t) o p = with_its_unit p.the_unit p.promised
 
@@ -163,6 +163,6 @@ ours_in-C_keeps = record { promised = promised; allowed = allowed; free = each_c
     allowed (check t) o p = p
     allowed (locate t x) o p = p
     allowed (evaluate t x) o p = p
-    allowed (float-answer t x) o p = crossing o.answer p
+    allowed (float_answer t x) o p = crossing o.answer p
     allowed (changed_points c t) o p = p
     allowed (point made c t) o p = record { promised = without_it p; the_unit = p.unit_kept }

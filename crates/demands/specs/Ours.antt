@@ -10,7 +10,7 @@ use Rattle.drive.specs.Drive.{Telling, dwell, move, told_of}
 use Rattle.exports.specs.declared.answers.Told.{Told}
 use Rattle.exports.specs.Cases.{verdict_number}
 use Rattle.demands.specs.ByContract.{three, whole, whole_with, whole_to_change, refusal, Judges, JudgesC, PointsAnswer, PointsAnswerC, Checks, ChecksC, Builds, BuildsC, ChangedPoints, ChangedPointsC, Changes, ChangesC, Locates, LocatesC, Evaluates, EvaluatesC, Drives, DrivesC}
-use Rattle.demands.specs.Demands.{Call, judge, points, build, check, locate, evaluate, float-answer, changed_points, point, Outcome, Implementation}
+use Rattle.demands.specs.Demands.{Call, judge, points, build, check, locate, evaluate, float_answer, changed_points, point, Outcome, Implementation}
 use Rattle.piece.proofs.judge.Reads as piece-judge
 use Rattle.table.proofs.points.Reads as table-points
 use Rattle.table.proofs.check.Reads as table-check
@@ -36,7 +36,7 @@ pub record ByJudge (s : ℕ) (h z m n : ℤ) (o : Outcome (judge s h z m n)) : T
   pub says : ruling_of verdict ≡ ruling o.number o.place o.answer
   pub promised : Judges s h z m n verdict
 
-pub record ByFloatAnswer (t : Table) (x : ℤ) (o : Outcome (float-answer t x)) : Type 0 where
+pub record ByFloatAnswer (t : Table) (x : ℤ) (o : Outcome (float_answer t x)) : Type 0 where
   pub told : Answer.Answer
   pub says : told_of told ≡ o.answer
   pub promised : Drives t x o.number o.place told
@@ -46,7 +46,7 @@ pub data CrossedAs : Telling → Told → Type 0 where
   a_dwell : {r : Told} → r.kind ≡ 0 → CrossedAs (dwell r.left) r
   a_move : {r : Told} → r.kind ≡ 1 → CrossedAs (move r.left r.numerator r.denominator) r
 
-pub record ByFloatAnswerC (t : Table) (x : ℤ) (o : Outcome (float-answer t x)) : Type 0 where
+pub record ByFloatAnswerC (t : Table) (x : ℤ) (o : Outcome (float_answer t x)) : Type 0 where
   pub told : Told
   pub refused_by : told.refusal ≡ refusal o.number o.place
   pub says : CrossedAs o.answer told
@@ -70,7 +70,7 @@ Asks (build t) = slopes-build.Pre three (whole_with t t.slopes tt)
 Asks (check t) = table-check.Pre three (whole t tt)
 Asks (locate t x) = position-locate.Pre three (whole t (x, tt))
 Asks (evaluate t x) = curve-evaluate.Pre three (whole t (x, tt))
-Asks (float-answer t x) = drive-float_answer.Pre three (whole t (x, tt))
+Asks (float_answer t x) = drive-float_answer.Pre three (whole t (x, tt))
 Asks (changed_points c t) = table-changed_points.Pre three (whole t (c, tt))
 Asks (point made c t) = change-point.Pre three (whole_to_change t (c, tt))
 
@@ -81,7 +81,7 @@ May (build t) o = Builds t o.number o.place o.lists
 May (check t) o = Checks t o.number o.place
 May (locate t x) o = Locates t x o.number o.place o.answer
 May (evaluate t x) o = Evaluates t x o.number o.place o.answer
-May (float-answer t x) o = ByFloatAnswer t x o
+May (float_answer t x) o = ByFloatAnswer t x o
 May (changed_points c t) o = ChangedPoints t c o.number o.place
 May (point made c t) o = ByPoint c t o.number o.place o.lists
 
@@ -97,7 +97,7 @@ AsksC (build t) = negwafir_build.Pre three (whole_with t t.slopes tt)
 AsksC (check t) = negwafir_check.Pre three (whole t tt)
 AsksC (locate t x) = negwafir_locate.Pre three (whole t (x, tt))
 AsksC (evaluate t x) = negwafir_evaluate.Pre three (whole t (x, tt))
-AsksC (float-answer t x) = negwafir_float_answer.Pre three (whole t (x, tt))
+AsksC (float_answer t x) = negwafir_float_answer.Pre three (whole t (x, tt))
 AsksC (changed_points c t) = negwafir_changed_points.Pre three (whole t (c, tt))
 AsksC (point made c t) = negwafir_change_point.Pre three (whole_to_change t (c, tt))
 
@@ -108,7 +108,7 @@ MayC (build t) o = BuildsC t o.number o.place o.lists
 MayC (check t) o = ChecksC t o.number o.place
 MayC (locate t x) o = LocatesC t x o.number o.place o.answer
 MayC (evaluate t x) o = EvaluatesC t x o.number o.place o.answer
-MayC (float-answer t x) o = ByFloatAnswerC t x o
+MayC (float_answer t x) o = ByFloatAnswerC t x o
 MayC (changed_points c t) o = ChangedPointsC t c o.number o.place
 MayC (point made c t) o = ByPointC c t o.number o.place o.lists
 

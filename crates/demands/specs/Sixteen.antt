@@ -1,5 +1,5 @@
 -- "The sixteen cases marked P are proved together as a single list with a single statement": what an implementation answers in each, in the unit 1/256 of document 01, which is s = 8. The first two lists of slopes are as request 2 of document 02 amends them, and the last case as request 6 does. This file has no proof;
--- `SixteenGiven.antt` shows that ours gives them. `Demands.antt` says how to read it.
+-- `SixteenOurs.antt` shows that ours gives them. `Demands.antt` says how to read it.
 use Rattle.std.specs.Prelude.{◌≡◌, List, [], ◌∷◌, ℤ, pos, negsuc, length}
 use Rattle.table.specs.Table.{table}
 use Rattle.piece.specs.Promise.{Finding, rising, falling, flat, bends}

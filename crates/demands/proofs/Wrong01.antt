@@ -17,12 +17,12 @@ use Rattle.position.specs.Pieces.{one_piece}
 use Rattle.position.specs.Refused.{accepted_at}
 use Rattle.drive.specs.Drive.{Telling, dwell, move, ToldAt, ToldOn, dwells, moves, HoldsFor, float_order}
 use Rattle.drive.specs.Refused.{as_evaluated, taken_small}
-use Rattle.demands.specs.Demands.{judge, locate, evaluate, float-answer, Document01}
-use Rattle.demands.specs.Programs.{outcome, answering, another_judge, another_locate, another_evaluate, another_float_answer, two, two_within, at_1}
-use Rattle.demands.specs.SixteenGiven.{count}
+use Rattle.demands.specs.Demands.{judge, locate, evaluate, float_answer, Document01}
+use Rattle.demands.proofs.Programs.{outcome, answering, another_judge, another_locate, another_evaluate, another_float_answer, two, two_within, at_1}
+use Rattle.demands.proofs.SixteenGiven.{count}
 use Rattle.demands.specs.Refuting.{within, below_the_line, in_piece, numbers_differ, apart}
-use Rattle.demands.specs.WrongDrives.{one_number}
-use Rattle.demands.specs.WrongUnits.{whole, proposed}
+use Rattle.demands.proofs.WrongDrives.{one_number}
+use Rattle.demands.proofs.WrongUnits.{whole, proposed}
 
 -- "none of the four verdicts": a refused piece is called rising
 abbrev is_rising : Finding → Bool
@@ -51,7 +51,7 @@ abbrev anything : Telling
 anything = move (fin false 1 (pos 0)) (fin false 1 (pos 30)) (fin false 0 (pos 0))
 
 pub a_refused_float_answer_that_moves : Document01 (answering (another_float_answer (λ t x o. o ≡ outcome 6 0 anything tt))) → ⊥
-a_refused_float_answer_that_moves d = apart is_move (d.a_refused_call_answers_nothing {call = float-answer two (pos 4)} {o = outcome 6 0 anything tt} refl (λ e. omega (arith, e))) tt tt
+a_refused_float_answer_that_moves d = apart is_move (d.a_refused_call_answers_nothing {call = float_answer two (pos 4)} {o = outcome 6 0 anything tt} refl (λ e. omega (arith, e))) tt tt
 
 -- position 1 of (0,0), (3,−10) is put into a piece that isn't there
 pub a_piece_that_is_not_there : Document01 (answering (another_locate (λ t x o. o ≡ outcome 0 0 1 tt))) → ⊥

@@ -19,9 +19,9 @@ use Rattle.demands.specs.Demands.{build, evaluate, point, Outcome, NoSlopeAgains
 use Rattle.demands.specs.Ours.{ours}
 use Rattle.demands.specs.Kept.{ours_keeps}
 use Rattle.demands.specs.Cubic.{no_slope_against}
-use Rattle.demands.specs.SixteenGiven.{eighth, count, has_slopes}
+use Rattle.demands.proofs.SixteenGiven.{eighth, count, has_slopes}
 use Rattle.demands.specs.Refuting.{within}
-use Rattle.demands.specs.Programs.{outcome, InOrderAtTheCounts, a_rise_at_its_counts, four, four_built, lowering, lowered, lowered_built, is_lowered}
+use Rattle.demands.proofs.Programs.{outcome, InOrderAtTheCounts, a_rise_at_its_counts, four, four_built, lowering, lowered, lowered_built, is_lowered}
 
 -- a value of a built table, on any of its pieces
 there : {s : ℕ} {ks vs before ss : List ℤ} {x v : ℤ} {i : ℕ} → Built (table s ks vs before) ss 0 0 → WithinKnots ks x → Belongs ks x i → v ≡ value_on (table s ks vs ss) i x → Evaluated (table s ks vs ss) x 0 0 v

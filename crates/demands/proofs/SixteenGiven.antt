@@ -1,4 +1,4 @@
--- Ours gives the sixteen: each case is a result that meets the promise, and one result only does.
+-- What keeps the promises gives the sixteen: each case is a result that meets the promise, and one result only does. `SixteenOurs.antt` has it of ours.
 use Rattle.std.specs.Prelude.{◌≡◌, refl, List, ℕ, ◌≤◌, T, leb, ℤ, pos, neg_ℤ, ◌*ℤ◌, ◌≤ℤ◌, ◌<ℤ◌, length}
 use Rattle.std.proofs.Common.{sym, ◌∙◌, ap, subst, lit<, lit≤}
 use Rattle.std.specs.Int.Signed.{le_z, le_z_yes, lt_z_yes}
@@ -22,9 +22,8 @@ use Rattle.position.specs.Refused.{as_checked, taken_inside}
 use Rattle.curve.specs.Curve.{value_on, Evaluated}
 use Rattle.curve.specs.Determined.{one_evaluation}
 use Rattle.demands.specs.Demands.{judge, build, evaluate, Implementation}
-use Rattle.demands.specs.Ours.{ours, ours_in-C}
-use Rattle.demands.specs.Kept.{Keeps, ours_keeps, ours_in-C_keeps}
-use Rattle.demands.specs.Met.{number_of, place_of, finding_of}
+use Rattle.demands.specs.Kept.{Keeps}
+use Rattle.demands.proofs.BothMeet.{number_of, place_of, finding_of}
 use Rattle.demands.specs.Refuting.{within}
 use Rattle.demands.specs.Sixteen.{piece, slopes, value, sixteen, Gives, All, none, ◌&◌, TheSixteen}
 
@@ -101,6 +100,3 @@ module _ {I : Implementation} (k : Keeps I) where
           & some_slopes (points_by_test _ _ refl (count tt tt) tt) refl
           & a_value (points_by_test _ _ refl (count tt tt) tt) (within tt tt) (inside {i = 0} (lit< tt) (le_z_yes tt) (lt_z_yes tt)) refl
           & none
-
-pub ours_gives_the_sixteen : TheSixteen ours × TheSixteen ours_in-C
-ours_gives_the_sixteen = (the_sixteen_are_given ours_keeps, the_sixteen_are_given ours_in-C_keeps)

@@ -12,9 +12,9 @@ use Rattle.slopes.specs.Put.{put}
 use Rattle.change.specs.Change.{Renews, before_it, at_it, behind_it, slope_0, the_last, Changed}
 use Rattle.change.specs.Figures.{made, point_1_moved_onto_point_2}
 use Rattle.demands.specs.Demands.{Call, point, Outcome, none, next, JustThis, Demand3}
-use Rattle.demands.specs.SixteenGiven.{eighth, count, has_slopes}
+use Rattle.demands.proofs.SixteenGiven.{eighth, count, has_slopes}
 use Rattle.demands.specs.Refuting.{numbers_differ}
-use Rattle.demands.specs.Programs.{outcome, answering, another_point, four, four_built, lowering, lowered, lowered_within, is_lowered, lowered_built}
+use Rattle.demands.proofs.Programs.{outcome, answering, another_point, four, four_built, lowering, lowered, lowered_within, is_lowered, lowered_built}
 
 -- A change that refuses as ours does, and where it does not leaves something in place of what ours leaves; it may go by the changes made before.
 abbrev pub when_done : ℕ → (old new : Table) → Table

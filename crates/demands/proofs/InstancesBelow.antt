@@ -25,9 +25,9 @@ use Rattle.replies.specs.Replies.{line_of}
 use Rattle.position.specs.declared.Sought.TheVariants.{On}
 use Rattle.position.specs.Spot.{on}
 use Rattle.demands.specs.ByContract.{to_change, list, SaysMonotone, HasCoefficients, Steps, RenewsTo, Seeks}
-use Rattle.demands.specs.Programs.{two, four}
+use Rattle.demands.proofs.Programs.{two, four}
 use Rattle.demands.specs.Refuting.{within, in_piece}
-use Rattle.demands.specs.SixteenGiven.{eighth, count}
+use Rattle.demands.proofs.SixteenGiven.{eighth, count}
 use Rattle.integers.proofs.difference.Reads as integers-difference
 use Rattle.integers.proofs.between.Reads as integers-between
 use Rattle.integers.proofs.floor_div.Reads as integers-floor_div

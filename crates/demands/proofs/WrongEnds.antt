@@ -14,10 +14,10 @@ use Rattle.slopes.specs.Slopes.{end_at, tab, built_slope, built_slopes}
 use Rattle.slopes.specs.Cases.{first_slope, last_slope}
 use Rattle.demands.specs.Demands.{Call, Outcome, Demand2}
 use Rattle.demands.specs.Rules.{end_rule, one_end}
-use Rattle.demands.specs.SixteenGiven.{eighth, count}
+use Rattle.demands.proofs.SixteenGiven.{eighth, count}
 use Rattle.demands.specs.Refuting.{numbers_differ}
-use Rattle.demands.specs.Programs.{answering, two, two_within}
-use Rattle.demands.specs.Wrong2.{leaving, but_at, left}
+use Rattle.demands.proofs.Programs.{answering, two, two_within}
+use Rattle.demands.proofs.Wrong2.{leaving, but_at, left}
 
 -- ======== "With three or more points use PCHIM's end rule"
 

@@ -25,13 +25,13 @@ use Rattle.curve.specs.Curve.{Evaluated}
 use Rattle.drive.specs.Drive.{resting, float_order}
 use Rattle.drive.specs.Refused.{as_evaluated, refused_large}
 use Rattle.demands.specs.Demands
-use Rattle.demands.specs.Demands.{Call, judge, points, build, check, locate, evaluate, float-answer, changed_points, point, Outcome, opposite_ends, LooksAt, its_points, a_value, Demand1}
+use Rattle.demands.specs.Demands.{Call, judge, points, build, check, locate, evaluate, float_answer, changed_points, point, Outcome, opposite_ends, LooksAt, its_points, a_value, Demand1}
 use Rattle.demands.specs.Ours.{May}
-use Rattle.demands.specs.Met.{width_taken}
+use Rattle.demands.proofs.BothMeet.{width_taken}
 use Rattle.demands.specs.Shown.{by_a_build, by_a_check}
-use Rattle.demands.specs.SixteenGiven.{eighth, count, has_value}
+use Rattle.demands.proofs.SixteenGiven.{eighth, count, has_value}
 use Rattle.demands.specs.Refuting.{within, above_8, no_unit, below_the_line, the_point_is_there, not_outside, numbers_differ}
-use Rattle.demands.specs.Programs.{outcome, answering, another_judge, another_points, another_build, another_check, another_locate, another_evaluate, another_float_answer, another_changed_points, another_point, its_cause, its_refusal, two, two_within, two_built, four, four_within, lowering}
+use Rattle.demands.proofs.Programs.{outcome, answering, another_judge, another_points, another_build, another_check, another_locate, another_evaluate, another_float_answer, another_changed_points, another_point, its_cause, its_refusal, two, two_within, two_built, four, four_within, lowering}
 
 -- ======== "Any points, slopes, positions and edits may come in, from any list of any length."
 
@@ -41,7 +41,7 @@ silent call o = ⊥
 
 -- What it is asked for: the same as `MayComeIn`, said again, so that the demand cannot be made to speak of fewer calls unseen.
 abbrev pub Asked : Call → Type 0
-Asked (float-answer t x) = (i : ℕ) → i < length t.values → SFits w32 (entry t.values i)
+Asked (float_answer t x) = (i : ℕ) → i < length t.values → SFits w32 (entry t.values i)
 Asked (judge s h z m n) = Unit
 Asked (points t) = Unit
 Asked (build t) = Unit
@@ -58,7 +58,7 @@ a_call_without_an_answer (build t) a d = (d.any_may_come_in (build t) tt).1
 a_call_without_an_answer (check t) a d = (d.any_may_come_in (check t) tt).1
 a_call_without_an_answer (locate t x) a d = (d.any_may_come_in (locate t x) tt).1
 a_call_without_an_answer (evaluate t x) a d = (d.any_may_come_in (evaluate t x) tt).1
-a_call_without_an_answer (float-answer t x) a d = (d.any_may_come_in (float-answer t x) a).1
+a_call_without_an_answer (float_answer t x) a d = (d.any_may_come_in (float_answer t x) a).1
 a_call_without_an_answer (changed_points c t) a d = (d.any_may_come_in (changed_points c t) tt).1
 a_call_without_an_answer (point made c t) a d = (d.any_may_come_in (point made c t) tt).1
 
@@ -175,7 +175,7 @@ no_piece_too_large d =
     let evaluated : Given (HoldsAt large (pos 0)) evaluation_order 0 0 = went_on refl (as_checked large_passes) (taken_inside (within tt tt)) in
     absurd (omega (
       arith,
-      (its_refusal d (float-answer large (pos 0)) (outcome 0 0 resting tt) evaluated (omega arith)
+      (its_refusal d (float_answer large (pos 0)) (outcome 0 0 resting tt) evaluated (omega arith)
           (went_on refl (as_evaluated evaluated) (refused_large (accepted_table refl large_passes) (inside {i = 0} (lit< tt) (le_z_yes tt) (lt_z_yes tt)) (record { above = lt_z_yes tt })))).0,
     ))
 
@@ -223,7 +223,7 @@ the_limit_of_the_float_answer_in_units d =
     let evaluated : Given (HoldsAt whole (pos 0)) evaluation_order 0 0 = went_on refl (as_checked whole_passes) (taken_inside (within tt tt)) in
     absurd (omega (
       arith,
-      (its_refusal d (float-answer whole (pos 0)) (outcome 0 0 resting tt) (went_on refl (carried beside_8 evaluated) (passed small done)) (omega arith)
+      (its_refusal d (float_answer whole (pos 0)) (outcome 0 0 resting tt) (went_on refl (carried beside_8 evaluated) (passed small done)) (omega arith)
           (went_on refl (as_evaluated evaluated) (refused_large (accepted_table refl whole_passes) in_piece_0 (record { above = lt_z_yes tt })))).0,
     ))
   where

@@ -15,9 +15,9 @@ use Rattle.piece.specs.Determined.{one_ruling}
 use Rattle.exports.specs.declared.answers.Judgement.{Judgement}
 use Rattle.exports.specs.Cases.{JudgedAs, judged}
 use Rattle.exports.specs.Determined.{one_judgement}
-use Rattle.demands.specs.Met.{number_of}
+use Rattle.demands.proofs.BothMeet.{number_of}
 use Rattle.demands.specs.ByContract.{Judges, JudgesC, AskedMonotone, SaysMonotone, AskedCoefficients, HasCoefficients}
-use Rattle.demands.specs.SixteenGiven.{eighth}
+use Rattle.demands.proofs.SixteenGiven.{eighth}
 use Rattle.demands.specs.Refuting.{within, above_8, against_its_rise, below_the_line, in_the_ellipse, apart, numbers_differ}
 
 -- ---- a wrong test

@@ -20,8 +20,8 @@ use Rattle.curve.specs.Curve.{ValueAt}
 use Rattle.curve.specs.InOrder.{value_on_lem, along_the_piece, from_the_left, to_the_right, throughout}
 use Rattle.demands.specs.Demands.{build, check, evaluate, Outcome, Implementation, Demand1, Demand2, Demand3, ChainOf}
 use Rattle.demands.specs.Ours.{ours, ours_in-C}
-use Rattle.demands.specs.Met.{met, met_in-C}
-use Rattle.demands.specs.NothingElse.{its_given}
+use Rattle.demands.proofs.BothMeet.{met, met_in-C}
+use Rattle.demands.proofs.NothingElse.{its_given}
 use Rattle.demands.specs.Values.{the_exact_is_the_value}
 use Rattle.demands.specs.NeverBacksUp.{ExactNeverBacksUp, NeverBacksUp}
 

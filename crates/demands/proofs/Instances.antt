@@ -19,11 +19,11 @@ use Rattle.drive.specs.Drive.{Telling, move, Driving}
 use Rattle.drive.specs.Figures.{on_the_fall}
 use Rattle.drive.specs.Refused.{as_evaluated, taken_small}
 use Rattle.exports.specs.Cases.{judged, moves}
-use Rattle.demands.specs.Demands.{judge, points, build, check, locate, evaluate, float-answer, changed_points, point, Implementation}
+use Rattle.demands.specs.Demands.{judge, points, build, check, locate, evaluate, float_answer, changed_points, point, Implementation}
 use Rattle.demands.specs.Ours.{ours, ours_in-C, a_move}
 use Rattle.demands.specs.Refuting.{within}
-use Rattle.demands.specs.SixteenGiven.{eighth, has_value}
-use Rattle.demands.specs.Programs.{outcome, two, two_within, two_built, two_passes, four, lowering, lowered, is_lowered}
+use Rattle.demands.proofs.SixteenGiven.{eighth, has_value}
+use Rattle.demands.proofs.Programs.{outcome, two, two_within, two_built, two_passes, four, lowering, lowered, is_lowered}
 
 -- 23038 and 6912 are 11519·2 and 27·2^8
 abbrev numerator : Telling
@@ -37,7 +37,7 @@ pub record Worked (I : Implementation) : Type 0 where
   pub a_check : I.May (check two) (outcome 0 0 tt tt)
   pub a_piece : I.May (locate two (pos 1)) (outcome 0 0 0 tt)
   pub a_value : I.May (evaluate two (pos 1)) (outcome 0 0 (negsuc 2) tt)
-  pub a_float_answer : I.May (float-answer two (pos 1)) (outcome 0 0 numerator tt)
+  pub a_float_answer : I.May (float_answer two (pos 1)) (outcome 0 0 numerator tt)
   pub changed_points_are : I.May (changed_points lowering four) (outcome 0 0 tt tt)
   pub a_change : I.May (point [] lowering four) (outcome 0 0 tt lowered)
 

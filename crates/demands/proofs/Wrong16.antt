@@ -11,11 +11,11 @@ use Rattle.rules.specs.Refusals.{answered}
 use Rattle.piece.specs.Promise.{Finding, rising, falling, flat, bends}
 use Rattle.demands.specs.Demands.{Implementation}
 use Rattle.demands.specs.Sixteen.{Case, Gives, All, none, ◌&◌, TheSixteen}
-use Rattle.demands.specs.SixteenGiven.{eighth}
+use Rattle.demands.proofs.SixteenGiven.{eighth}
 use Rattle.demands.specs.Refuting.{numbers_differ}
-use Rattle.demands.specs.Programs.{outcome, answering, another_judge, two, two_built, three_within, at_1, minus_three, ByThePaper, turned_away, not_by_less}
-use Rattle.demands.specs.WrongEnds.{at_the_first, secant}
-use Rattle.demands.specs.Wrong2.{BySigns, leaving, idle_afterwards, valued_by, rounded_by, nearest_toward_zero}
+use Rattle.demands.proofs.Programs.{outcome, answering, another_judge, two, two_built, three_within, at_1, minus_three, ByThePaper, turned_away, not_by_less}
+use Rattle.demands.proofs.WrongEnds.{at_the_first, secant}
+use Rattle.demands.proofs.Wrong2.{BySigns, leaving, idle_afterwards, valued_by, rounded_by, nearest_toward_zero}
 
 -- what case i of a list says
 abbrev Says : Implementation → List Case → ℕ → Type 0

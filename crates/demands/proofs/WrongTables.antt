@@ -20,7 +20,7 @@ use Rattle.position.specs.Pieces.{one_piece}
 use Rattle.position.specs.Spot.{sought_outside, sought_on}
 use Rattle.position.specs.Refused.{accepted_at}
 use Rattle.curve.specs.Curve.{value_on, Evaluated}
-use Rattle.demands.specs.SixteenGiven.{eighth, count, has_slopes}
+use Rattle.demands.proofs.SixteenGiven.{eighth, count, has_slopes}
 use Rattle.demands.specs.ByContract.{PointsAnswer, PointsAnswerC, Checks, ChecksC, Builds, BuildsC, AskedRenewal, RenewsTo, ChangedPoints, ChangedPointsC, Changes, ChangesC, AskedStep, Steps, Locates, LocatesC, AskedSeek, Seeks, Evaluates, EvaluatesC}
 use Rattle.demands.specs.Refuting.{within, overlooked, so_it_holds, no_unit, too_narrow, too_high, against_its_rise, below_the_line, in_piece, no_bad_width, no_bad_rise, no_bend, no_bad_width_then, the_point_is_there, no_bend_there, not_outside, answers_nothing, numbers_differ, lists_differ}
 

@@ -22,10 +22,10 @@ use Rattle.demands.specs.Demands.{Call, judge, Outcome, CalledByItsRise, it_fall
 use Rattle.demands.specs.Ours.{May}
 use Rattle.demands.specs.ByOrder.{none_holds}
 use Rattle.demands.specs.Cubic.{no_slope_against}
-use Rattle.demands.specs.Met.{not_bends}
-use Rattle.demands.specs.SixteenGiven.{eighth, count, has_slopes, has_value}
+use Rattle.demands.proofs.BothMeet.{not_bends}
+use Rattle.demands.proofs.SixteenGiven.{eighth, count, has_slopes, has_value}
 use Rattle.demands.specs.Refuting.{within, numbers_differ}
-use Rattle.demands.specs.Programs.{outcome, answering, another_judge, another_build, another_check, another_evaluate, two, two_within, two_built, two_passes, three, three_within, at_1, minus_three, ByThePaper, turned_away, not_by_less, InOrderAtTheCounts, a_rise_at_its_counts}
+use Rattle.demands.proofs.Programs.{outcome, answering, another_judge, another_build, another_check, another_evaluate, two, two_within, two_built, two_passes, three, three_within, at_1, minus_three, ByThePaper, turned_away, not_by_less, InOrderAtTheCounts, a_rise_at_its_counts}
 use Rattle.demands.specs.Values.{the_exact_is_the_value}
 
 -- ======== "A piece within the limits gets a yes exactly when its cubic has no slope against its rise at any fraction of its width ..": no yes where there is to be one

@@ -10,7 +10,7 @@ use Rattle.commands.specs.declared.Command.{Command}
 use Rattle.commands.specs.declared.Command.TheVariants.{Nothing, Wrong, Set, Show, Piece, Build, Check, At, Drive, Change, SetUnit, ShowUnit}
 use Rattle.commands.specs.Examples as lines
 use Rattle.commands.specs.Examples.{worked, too_long, spaces, knots_and, too_many, full_list}
-use Rattle.demands.specs.InstancesBelow.{bytes}
+use Rattle.demands.proofs.InstancesBelow.{bytes}
 use Rattle.demands.specs.Refuting.{lists_differ}
 use Rattle.commands.proofs.parse.Reads as commands-parse
 

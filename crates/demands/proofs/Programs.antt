@@ -18,11 +18,11 @@ use Rattle.position.specs.Position.{Belongs, inside}
 use Rattle.curve.specs.Curve.{Evaluated}
 use Rattle.change.specs.Change.{Changed}
 use Rattle.change.specs.Figures.{point_0_lowered}
-use Rattle.demands.specs.Demands.{Call, judge, points, build, check, locate, evaluate, float-answer, changed_points, point, Outcome, Reply, Lists, Implementation, CauseOf, order_of, Demand1}
+use Rattle.demands.specs.Demands.{Call, judge, points, build, check, locate, evaluate, float_answer, changed_points, point, Outcome, Reply, Lists, Implementation, CauseOf, order_of, Demand1}
 use Rattle.demands.specs.Ours.{Asks, May}
 use Rattle.demands.specs.ByOrder.{refused_exactly}
 use Rattle.demands.specs.Refuting.{within, numbers_differ}
-use Rattle.demands.specs.SixteenGiven.{eighth, count, has_slopes, has_value}
+use Rattle.demands.proofs.SixteenGiven.{eighth, count, has_slopes, has_value}
 
 -- what comes out of a call
 abbrev pub outcome : {call : Call} → ℕ → ℕ → Reply call → Lists call → Outcome call
@@ -40,7 +40,7 @@ abbrev by_call : ((s : ℕ) (h z m n : ℤ) → Outcome (judge s h z m n) → Ty
     → ((t : Table) → Outcome (check t) → Type 0)
     → ((t : Table) (x : ℤ) → Outcome (locate t x) → Type 0)
     → ((t : Table) (x : ℤ) → Outcome (evaluate t x) → Type 0)
-    → ((t : Table) (x : ℤ) → Outcome (float-answer t x) → Type 0)
+    → ((t : Table) (x : ℤ) → Outcome (float_answer t x) → Type 0)
     → ((c : Change) (t : Table) → Outcome (changed_points c t) → Type 0)
     → ((made : List Change) (c : Change) (t : Table) → Outcome (point made c t) → Type 0)
     → (call : Call) → Outcome call → Type 0
@@ -50,38 +50,38 @@ by_call J P B C L E F D Q (build t) = B t
 by_call J P B C L E F D Q (check t) = C t
 by_call J P B C L E F D Q (locate t x) = L t x
 by_call J P B C L E F D Q (evaluate t x) = E t x
-by_call J P B C L E F D Q (float-answer t x) = F t x
+by_call J P B C L E F D Q (float_answer t x) = F t x
 by_call J P B C L E F D Q (changed_points c t) = D c t
 by_call J P B C L E F D Q (point made c t) = Q made c t
 
 -- ours, but for one call, of which `Wrong` says what may come out
 
 abbrev pub another_judge : ((s : ℕ) (h z m n : ℤ) → Outcome (judge s h z m n) → Type 0) → (call : Call) → Outcome call → Type 0
-another_judge Wrong = by_call Wrong (λ t. May (points t)) (λ t. May (build t)) (λ t. May (check t)) (λ t x. May (locate t x)) (λ t x. May (evaluate t x)) (λ t x. May (float-answer t x)) (λ c t. May (changed_points c t)) (λ made c t. May (point made c t))
+another_judge Wrong = by_call Wrong (λ t. May (points t)) (λ t. May (build t)) (λ t. May (check t)) (λ t x. May (locate t x)) (λ t x. May (evaluate t x)) (λ t x. May (float_answer t x)) (λ c t. May (changed_points c t)) (λ made c t. May (point made c t))
 
 abbrev pub another_points : ((t : Table) → Outcome (points t) → Type 0) → (call : Call) → Outcome call → Type 0
-another_points Wrong = by_call (λ s h z m n. May (judge s h z m n)) Wrong (λ t. May (build t)) (λ t. May (check t)) (λ t x. May (locate t x)) (λ t x. May (evaluate t x)) (λ t x. May (float-answer t x)) (λ c t. May (changed_points c t)) (λ made c t. May (point made c t))
+another_points Wrong = by_call (λ s h z m n. May (judge s h z m n)) Wrong (λ t. May (build t)) (λ t. May (check t)) (λ t x. May (locate t x)) (λ t x. May (evaluate t x)) (λ t x. May (float_answer t x)) (λ c t. May (changed_points c t)) (λ made c t. May (point made c t))
 
 abbrev pub another_build : ((t : Table) → Outcome (build t) → Type 0) → (call : Call) → Outcome call → Type 0
-another_build Wrong = by_call (λ s h z m n. May (judge s h z m n)) (λ t. May (points t)) Wrong (λ t. May (check t)) (λ t x. May (locate t x)) (λ t x. May (evaluate t x)) (λ t x. May (float-answer t x)) (λ c t. May (changed_points c t)) (λ made c t. May (point made c t))
+another_build Wrong = by_call (λ s h z m n. May (judge s h z m n)) (λ t. May (points t)) Wrong (λ t. May (check t)) (λ t x. May (locate t x)) (λ t x. May (evaluate t x)) (λ t x. May (float_answer t x)) (λ c t. May (changed_points c t)) (λ made c t. May (point made c t))
 
 abbrev pub another_check : ((t : Table) → Outcome (check t) → Type 0) → (call : Call) → Outcome call → Type 0
-another_check Wrong = by_call (λ s h z m n. May (judge s h z m n)) (λ t. May (points t)) (λ t. May (build t)) Wrong (λ t x. May (locate t x)) (λ t x. May (evaluate t x)) (λ t x. May (float-answer t x)) (λ c t. May (changed_points c t)) (λ made c t. May (point made c t))
+another_check Wrong = by_call (λ s h z m n. May (judge s h z m n)) (λ t. May (points t)) (λ t. May (build t)) Wrong (λ t x. May (locate t x)) (λ t x. May (evaluate t x)) (λ t x. May (float_answer t x)) (λ c t. May (changed_points c t)) (λ made c t. May (point made c t))
 
 abbrev pub another_locate : ((t : Table) (x : ℤ) → Outcome (locate t x) → Type 0) → (call : Call) → Outcome call → Type 0
-another_locate Wrong = by_call (λ s h z m n. May (judge s h z m n)) (λ t. May (points t)) (λ t. May (build t)) (λ t. May (check t)) Wrong (λ t x. May (evaluate t x)) (λ t x. May (float-answer t x)) (λ c t. May (changed_points c t)) (λ made c t. May (point made c t))
+another_locate Wrong = by_call (λ s h z m n. May (judge s h z m n)) (λ t. May (points t)) (λ t. May (build t)) (λ t. May (check t)) Wrong (λ t x. May (evaluate t x)) (λ t x. May (float_answer t x)) (λ c t. May (changed_points c t)) (λ made c t. May (point made c t))
 
 abbrev pub another_evaluate : ((t : Table) (x : ℤ) → Outcome (evaluate t x) → Type 0) → (call : Call) → Outcome call → Type 0
-another_evaluate Wrong = by_call (λ s h z m n. May (judge s h z m n)) (λ t. May (points t)) (λ t. May (build t)) (λ t. May (check t)) (λ t x. May (locate t x)) Wrong (λ t x. May (float-answer t x)) (λ c t. May (changed_points c t)) (λ made c t. May (point made c t))
+another_evaluate Wrong = by_call (λ s h z m n. May (judge s h z m n)) (λ t. May (points t)) (λ t. May (build t)) (λ t. May (check t)) (λ t x. May (locate t x)) Wrong (λ t x. May (float_answer t x)) (λ c t. May (changed_points c t)) (λ made c t. May (point made c t))
 
-abbrev pub another_float_answer : ((t : Table) (x : ℤ) → Outcome (float-answer t x) → Type 0) → (call : Call) → Outcome call → Type 0
+abbrev pub another_float_answer : ((t : Table) (x : ℤ) → Outcome (float_answer t x) → Type 0) → (call : Call) → Outcome call → Type 0
 another_float_answer Wrong = by_call (λ s h z m n. May (judge s h z m n)) (λ t. May (points t)) (λ t. May (build t)) (λ t. May (check t)) (λ t x. May (locate t x)) (λ t x. May (evaluate t x)) Wrong (λ c t. May (changed_points c t)) (λ made c t. May (point made c t))
 
 abbrev pub another_changed_points : ((c : Change) (t : Table) → Outcome (changed_points c t) → Type 0) → (call : Call) → Outcome call → Type 0
-another_changed_points Wrong = by_call (λ s h z m n. May (judge s h z m n)) (λ t. May (points t)) (λ t. May (build t)) (λ t. May (check t)) (λ t x. May (locate t x)) (λ t x. May (evaluate t x)) (λ t x. May (float-answer t x)) Wrong (λ made c t. May (point made c t))
+another_changed_points Wrong = by_call (λ s h z m n. May (judge s h z m n)) (λ t. May (points t)) (λ t. May (build t)) (λ t. May (check t)) (λ t x. May (locate t x)) (λ t x. May (evaluate t x)) (λ t x. May (float_answer t x)) Wrong (λ made c t. May (point made c t))
 
 abbrev pub another_point : ((made : List Change) (c : Change) (t : Table) → Outcome (point made c t) → Type 0) → (call : Call) → Outcome call → Type 0
-another_point Wrong = by_call (λ s h z m n. May (judge s h z m n)) (λ t. May (points t)) (λ t. May (build t)) (λ t. May (check t)) (λ t x. May (locate t x)) (λ t x. May (evaluate t x)) (λ t x. May (float-answer t x)) (λ c t. May (changed_points c t)) Wrong
+another_point Wrong = by_call (λ s h z m n. May (judge s h z m n)) (λ t. May (points t)) (λ t. May (build t)) (λ t. May (check t)) (λ t x. May (locate t x)) (λ t x. May (evaluate t x)) (λ t x. May (float_answer t x)) (λ c t. May (changed_points c t)) Wrong
 
 -- ---- the first demand's middle sentence, both ways, of a call whose right refusal is known
 

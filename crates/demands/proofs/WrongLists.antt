@@ -9,7 +9,7 @@ use Rattle.decimals.specs.Decimal.{are_digits, natural}
 use Rattle.decimals.specs.Text.{spelled}
 use Rattle.lists.specs.Lists.{numbers_of, spaced}
 use Rattle.demands.specs.ByContract.{to_change, list}
-use Rattle.demands.specs.InstancesBelow.{bytes}
+use Rattle.demands.proofs.InstancesBelow.{bytes}
 use Rattle.demands.specs.Refuting.{numbers_differ, lists_differ}
 use Rattle.lines.proofs.take.Reads as lines-take
 use Rattle.lists.proofs.set.Reads as lists-set

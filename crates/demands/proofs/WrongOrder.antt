@@ -19,10 +19,10 @@ use Rattle.curve.specs.Curve.{value_on, ValueAt, Evaluated}
 use Rattle.demands.specs.Demands.{Call, check, evaluate, Outcome, none, next}
 use Rattle.demands.specs.Ours.{May}
 use Rattle.demands.specs.NeverBacksUp.{NeverBacksUp}
-use Rattle.demands.specs.SixteenGiven.{eighth, count, has_slopes}
+use Rattle.demands.proofs.SixteenGiven.{eighth, count, has_slopes}
 use Rattle.demands.specs.Refuting.{within, against_its_rise, numbers_differ}
-use Rattle.demands.specs.Programs.{outcome, answering, another_check, another_evaluate, another_point, InOrderAtTheCounts, a_rise_at_its_counts, a_fall_at_its_counts, a_level_at_its_counts, two, two_built, two_passes}
-use Rattle.demands.specs.Wrong2.{valued_by}
+use Rattle.demands.proofs.Programs.{outcome, answering, another_check, another_evaluate, another_point, InOrderAtTheCounts, a_rise_at_its_counts, a_fall_at_its_counts, a_level_at_its_counts, two, two_built, two_passes}
+use Rattle.demands.proofs.Wrong2.{valued_by}
 
 -- ======== "For any table the check accepts": an answer exactly there
 

@@ -8,7 +8,7 @@ use Rattle.answers.specs.declared.filling.Signed.{Signed}
 use Rattle.answers.specs.Filling.{filled}
 use Rattle.answers.specs.Texts.{entry_of}
 use Rattle.demands.specs.ByContract.{to_change}
-use Rattle.demands.specs.InstancesBelow.{bytes, seven, minus_zero, three}
+use Rattle.demands.proofs.InstancesBelow.{bytes, seven, minus_zero, three}
 use Rattle.demands.specs.Refuting.{lists_differ}
 use Rattle.answers.proofs.natural.Reads as answers-natural
 use Rattle.answers.proofs.whole.Reads as answers-whole

@@ -19,12 +19,12 @@ use Rattle.position.specs.Refused.{as_checked, taken_inside}
 use Rattle.curve.specs.Curve.{value_on, Evaluated}
 use Rattle.demands.specs.Demands.{judge, NoSlopeAgainstItsRise, Demand2}
 use Rattle.demands.specs.Ours.{May}
-use Rattle.demands.specs.Met.{not_bends}
-use Rattle.demands.specs.SixteenGiven.{count}
+use Rattle.demands.proofs.BothMeet.{not_bends}
+use Rattle.demands.proofs.SixteenGiven.{count}
 use Rattle.demands.specs.Refuting.{within, below_the_line, in_the_ellipse, in_piece, numbers_differ}
-use Rattle.demands.specs.Programs.{outcome, answering, another_judge}
-use Rattle.demands.specs.Wrong2.{leaving, but_at, left, valued_by, the_same}
-use Rattle.demands.specs.WrongEnds.{at_the_first, the_first, by_cases, bound, quotient, of_two_points}
+use Rattle.demands.proofs.Programs.{outcome, answering, another_judge}
+use Rattle.demands.proofs.Wrong2.{leaving, but_at, left, valued_by, the_same}
+use Rattle.demands.proofs.WrongEnds.{at_the_first, the_first, by_cases, bound, quotient, of_two_points}
 
 -- whole slopes, and those in 1/8
 pub whole : UnitWithin 0

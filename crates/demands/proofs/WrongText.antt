@@ -23,7 +23,7 @@ use Rattle.exports.specs.declared.text.Read32.{Read32}
 use Rattle.exports.specs.Cases.{found, nothing, NumberAs, Number32As}
 use Rattle.exports.specs.Determined.{one_span, one_read, one_read32}
 use Rattle.demands.specs.ByContract.{to_change}
-use Rattle.demands.specs.WrongNumbers.{either}
+use Rattle.demands.proofs.WrongNumbers.{either}
 use Rattle.words.proofs.find.Reads as words-find
 use Rattle.words.proofs.content.Reads as words-content
 use Rattle.words.proofs.next_word.Reads as words-next_word

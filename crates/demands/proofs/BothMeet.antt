@@ -34,7 +34,7 @@ use Rattle.change.specs.Change.{Changed}
 use Rattle.change.specs.Chain as Chain
 use Rattle.change.specs.WhatIsWritten.{the_point_holds_the_new_knot, the_point_holds_the_new_value, the_slopes_it_renews_are_as_built, no_other_knot_changes, no_other_value_changes, no_other_slope_changes}
 use Rattle.change.specs.RefusedAsABuild.{made_only_then, made_then}
-use Rattle.demands.specs.Demands.{Call, judge, points, build, check, locate, evaluate, float-answer, changed_points, point, Outcome, Implementation, order_of, HoldsAlone, no_such_unit, width_outside, rise_outside, CauseOf, NoneHolds, opposite_ends, LooksAt, its_points, a_build, a_check, a_piece, a_value, a_float_answer, its_changed_points, a_change, to_change, MayComeIn, Demand1, CalledByItsRise, it_rises, it_falls, it_is_flat, NoSlopeAgainstItsRise, NoneAgainst, RightSlope, RightSlopes, ExactRounded, Demand2, ChainOf, none, next, JustThis, Demand3, nothing, Document01}
+use Rattle.demands.specs.Demands.{Call, judge, points, build, check, locate, evaluate, float_answer, changed_points, point, Outcome, Implementation, order_of, HoldsAlone, no_such_unit, width_outside, rise_outside, CauseOf, NoneHolds, opposite_ends, LooksAt, its_points, a_build, a_check, a_piece, a_value, a_float_answer, its_changed_points, a_change, lent, MayComeIn, Demand1, CalledByItsRise, it_rises, it_falls, it_is_flat, NoSlopeAgainstItsRise, NoneAgainst, RightSlope, RightSlopes, ExactRounded, Demand2, ChainOf, none, next, JustThis, Demand3, nothing, Document01}
 use Rattle.demands.specs.Ours.{ours, ours_in-C}
 use Rattle.demands.specs.Kept.{Promised, Keeps, ours_keeps, ours_in-C_keeps}
 use Rattle.demands.specs.ByOrder.{refused_exactly, none_given}
@@ -82,7 +82,7 @@ by_the_order (build t) o p = p.refusal
 by_the_order (check t) o p = p
 by_the_order (locate t x) o p = p.refusal
 by_the_order (evaluate t x) o p = p.refusal
-by_the_order (float-answer t x) o p = p.refusal
+by_the_order (float_answer t x) o p = p.refusal
 by_the_order (changed_points c t) o p = p
 by_the_order (point made c t) o p = p.refusal
 
@@ -96,7 +96,7 @@ some_outcome (build t) c = let b = every_build_has_an_answer t in (record { numb
 some_outcome (check t) c = let g = every_table_has_an_answer_to_a_check t in (record { number = g.number; place = g.place; answer = tt; lists = tt }, g.given)
 some_outcome (locate t x) c = let l = every_position_is_located t x in (record { number = l.number; place = l.place; answer = l.piece; lists = tt }, l.located)
 some_outcome (evaluate t x) c = let e = every_evaluation_has_an_answer t x in (record { number = e.number; place = e.place; answer = e.value; lists = tt }, e.evaluated)
-some_outcome (float-answer t x) c = let d = every_float_answer_of_32_bit_values_tells t x c in (record { number = d.number; place = d.place; answer = d.told; lists = tt }, d.driving)
+some_outcome (float_answer t x) c = let d = every_float_answer_of_32_bit_values_tells t x c in (record { number = d.number; place = d.place; answer = d.told; lists = tt }, d.driving)
 some_outcome (changed_points c t) _ = let g = every_change_has_an_answer c t in (record { number = g.number; place = g.place; answer = tt; lists = tt }, g.given)
 some_outcome (point made c t) _ = let u = every_change_leaves_a_table c t in (record { number = u.number; place = u.place; answer = tt; lists = u.after }, u.changed)
 
@@ -110,14 +110,14 @@ at_opposite_ends {v = v} {w} {m} {n} u (a_float_answer x) = by_a_float_answer u 
 at_opposite_ends {v = v} {w} {m} {n} u (its_changed_points {c} {before} l e) = as_changed c before l (subst (λ (t : Table). Given (Holds t) build_order 3 0) (sym e) (by_a_build u v w m n))
 at_opposite_ends {v = v} {w} {m} {n} u (a_change {c = c} {before} l e) = as_changed c before l (subst (λ (t : Table). Given (Holds t) build_order 3 0) (sym e) (by_a_build u v w m n))
 
-untouched : (call : Call) (o : Outcome call) → Promised call o → (o.number ≡ 0 → ⊥) → o.lists ≡ to_change call
+untouched : (call : Call) (o : Outcome call) → Promised call o → (o.number ≡ 0 → ⊥) → o.lists ≡ lent call
 untouched (judge s h z m n) o p f = refl
 untouched (points t) o p f = refl
 untouched (build t) o p f = p.slopes ∙ sym (kept _ _ f)
 untouched (check t) o p f = refl
 untouched (locate t x) o p f = refl
 untouched (evaluate t x) o p f = refl
-untouched (float-answer t x) o p f = refl
+untouched (float_answer t x) o p f = refl
 untouched (changed_points c t) o p f = refl
 untouched (point made c t) o p f =
     let knots = p.knots ∙ sym (kept _ _ f) in
@@ -239,7 +239,7 @@ answers_nothing_where_refused (build t) o p f = refl
 answers_nothing_where_refused (check t) o p f = refl
 answers_nothing_where_refused (locate t x) o p f = no_answer p.piece f
 answers_nothing_where_refused (evaluate t x) o p f = no_answer p.value f
-answers_nothing_where_refused (float-answer t x) o p f = no_answer p.answer f
+answers_nothing_where_refused (float_answer t x) o p f = no_answer p.answer f
 answers_nothing_where_refused (changed_points c t) o p f = refl
 answers_nothing_where_refused (point made c t) o p f = refl
 
@@ -279,7 +279,7 @@ module _ {I : Implementation} (k : Keeps I) where
   document_01 = record {
     a_refused_call_answers_nothing = λ {call} p. answers_nothing_where_refused call _ (k.promised call _ p);
     the_piece_of_a_position = λ {t} {x} p e. answer_right e (k.promised (locate t x) _ p).piece;
-    what_the_drive_is_told = λ {t} {x} p e. answer_right e (k.promised (float-answer t x) _ p).answer;
+    what_the_drive_is_told = λ {t} {x} p e. answer_right e (k.promised (float_answer t x) _ p).answer;
   }
 
 -- ======== Ours does

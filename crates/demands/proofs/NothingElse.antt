@@ -26,12 +26,12 @@ use Rattle.position.specs.Refused.{accepted_at}
 use Rattle.drive.specs.Found.{every_float_answer_is_refused_or_not}
 use Rattle.change.specs.Change.{Renews, renewed_slopes}
 use Rattle.change.specs.Beside.{is_renewed_lem}
-use Rattle.demands.specs.Demands.{Call, judge, points, build, check, locate, evaluate, float-answer, changed_points, point, Outcome, Implementation, CauseOf, order_of, Demand1, CalledByItsRise, it_rises, it_falls, it_is_flat, RightSlope, RightSlopes, Demand2, JustThis, Demand3, Document01}
+use Rattle.demands.specs.Demands.{Call, judge, points, build, check, locate, evaluate, float_answer, changed_points, point, Outcome, Implementation, CauseOf, order_of, Demand1, CalledByItsRise, it_rises, it_falls, it_is_flat, RightSlope, RightSlopes, Demand2, JustThis, Demand3, Document01}
 use Rattle.demands.specs.ByOrder.{refused_exactly}
 use Rattle.demands.specs.Cubic.{monotone_without, no_slope_against}
 use Rattle.demands.specs.Kept.{Promised}
-use Rattle.demands.specs.Met.{alone, finding_of, not_bends}
-use Rattle.demands.specs.Programs.{its_refusal}
+use Rattle.demands.proofs.BothMeet.{alone, finding_of, not_bends}
+use Rattle.demands.proofs.Programs.{its_refusal}
 use Rattle.demands.specs.Rules.{one_in_units, one_end, one_mean}
 use Rattle.demands.specs.Shown.{right_slope}
 use Rattle.demands.specs.Values.{the_exact_is_the_value}
@@ -48,7 +48,7 @@ some_given (build t) = every_table_has_an_answer_to_a_build t
 some_given (check t) = every_table_has_an_answer_to_a_check t
 some_given (locate t x) = every_position_has_an_answer t x
 some_given (evaluate t x) = every_position_has_an_answer t x
-some_given (float-answer t x) = every_float_answer_is_refused_or_not t x
+some_given (float_answer t x) = every_float_answer_is_refused_or_not t x
 some_given (changed_points c t) = every_change_has_an_answer c t
 some_given (point made c t) = every_change_has_an_answer c t
 
@@ -201,7 +201,7 @@ module _ {I : Implementation} (d : Demand1 I) (e : Demand2 I) (f : Demand3 I) (g
   nothing_else (evaluate t x) o may =
       let r = its_given d (evaluate t x) o may in
       record { refusal = r; value = answered_so (λ k. the_exact_is_the_value (accepted_at k r).unit (accepted_at k r).limits (e.the_value_at_a_position may k)) (g.a_refused_call_answers_nothing may) }
-  nothing_else (float-answer t x) o may = record { refusal = its_given d (float-answer t x) o may; answer = answered_so (g.what_the_drive_is_told may) (g.a_refused_call_answers_nothing may) }
+  nothing_else (float_answer t x) o may = record { refusal = its_given d (float_answer t x) o may; answer = answered_so (g.what_the_drive_is_told may) (g.a_refused_call_answers_nothing may) }
   nothing_else (changed_points c t) o may = its_given d (changed_points c t) o may
   nothing_else (point made c t) o may =
       let r = its_given d (point made c t) o may in
