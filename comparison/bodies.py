@@ -158,4 +158,4 @@ def bodies_of(project, file):
 def read_project(root):
     """All the code but the exports: C calls them, and no program that is run here reaches them."""
     paths = sorted(path.relative_to(root).as_posix() for path in root.glob("crates/*/src/*.rt"))
-    return Project([File(path, (root / path).read_text()) for path in paths if crate_of(path) != "exports"])
+    return Project([File(path, (root / path).read_text()) for path in paths if crate_of(path) not in ("exports", "exports_c")])

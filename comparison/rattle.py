@@ -14,7 +14,7 @@ Fields = namedtuple("Fields", "name types")  # a struct's, or those of an enum's
 TOKEN = re.compile(
     r"""
       (?P<gap>\s+|//[^\n]*)
-    | (?P<text>b"(?:\\.|[^"\\])*"|b'(?:\\.|[^'\\])')
+    | (?P<text>b?"(?:\\.|[^"\\])*"|b?'(?:\\.|[^'\\])')
     | (?P<number>[0-9]+(?:\.[0-9]+)?(?:[ui](?:8|16|32|64|size))?)
     | (?P<name>[A-Za-z_]\w*(?:::[A-Za-z_]\w*)*)
     | (?P<sign>\.\.|->|=>|==|!=|<=|>=|&&|\|\||\+=|-=|[-+*/%<>=!&|.,:;(){}\[\]\#?])

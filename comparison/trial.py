@@ -1,9 +1,9 @@
 """Runs a changed program, unproved and in a copy, and says whether it was told from the right one.
 
-The kit's `rt try` runs a program on its interpreter and compiled in three ways. The interpreter gives up
-on as many cases as are stored, and compiling takes longest. So a few cases are tried on the interpreter
-alone, which tell most of the changed programs; `rt try` runs the workbench with the others on all the
-cases, in parts, and with what is left the program that calls the libraries as the workbench does not.
+The kit's `rt try` compiles a program with checks, unproved, and runs it on each of the cases in a folder. A program may
+write so many bytes only, so the stored cases are in parts; a few that tell most of the changed programs are a case of
+their own. What these leave is the program that calls the libraries as the workbench does not. The interpreter of
+`rt try` would not come to the end of as many cases, and is given up at once.
 """
 import os
 import re
@@ -17,38 +17,13 @@ from pathlib import Path
 import reference
 from few import few_cases
 from groups import grouped
-from stored import ANSWERS, CALLS_ANSWERS, CASES, EXAMPLE, ROOT, read
+from stored import CALLS_ANSWERS, CASES, EXAMPLE, ROOT, read
 
 NOT_A_PROGRAM, TOLD, SURVIVES = "not a program", "told", "survives"
-NOT_LOWERED = "rattle-cases: the program is not lowered"
-GAVE_UP = "the run did not finish within"
-TOO_SLOW = "the program did not end within the time limit"
-EMULATED = os.uname().machine != "x86_64"
-PATIENCE = 60  # seconds, more than ten times what the right program takes
+REFUSED, FAULT, DIFFERS, NO_ANSWER = 1, 4, 5, 6  # what `rt try` ends with
 MOST_WRITTEN = 2**20  # bytes that `rt try` lets a program write
-
-
-def the_kit():
-    """The folder of the kit whose rt is on the PATH."""
-    return Path(os.environ.get("RATTLE_HOME") or Path(shutil.which("rt")).resolve().parent.parent)
-
-
-def kit_without_compiler(folder):
-    """The kit, but for a compiler that makes an empty program of anything, so that the interpreter alone counts."""
-    tools = Path("on") / os.uname().machine / "toolchain"
-    clang = tools / "bin" / "clang"
-    own = (Path(), tools.parent.parent, tools.parent, tools, tools / "bin")
-    for inner in own:
-        (folder / inner).mkdir()
-        for entry in (the_kit() / inner).iterdir():
-            if inner / entry.name not in (*own, clang):
-                (folder / inner / entry.name).symlink_to(entry)
-    empty = folder / "empty.o"
-    words = ("--target=x86_64-unknown-linux-gnu", "-fPIE", "-x", "c", "-c", "-", "-o", empty)
-    subprocess.run([the_kit() / clang, *words], input=b"int main(void) { return 0; }", check=True)
-    (folder / clang).write_text(f"#!/bin/sh\nexec /bin/cp {empty} module.o\n")
-    (folder / clang).chmod(0o755)
-    return folder
+SECONDS = 60  # for each run, more than ten times what the right program takes
+PATIENCE = 1800  # seconds for all of it, with the compiling
 
 
 def parts_of_cases():
@@ -67,32 +42,35 @@ def parts_of_cases():
 
 
 class Room:
-    """A copy of the code with cases to run a program on, in a folder of its own."""
+    """A copy of the code, in a folder of its own, with cases for each of the programs: what goes in, and what has to come out."""
 
-    def __init__(self, folder, program, files, kit, judged):
-        self.folder, self.program, self.kit, self.judged = folder, program, kit, judged
+    def __init__(self, folder, programs):
+        self.folder, self.programs = folder, programs
         for source in (ROOT / "crates").glob("*/src"):
             shutil.copytree(source, folder / source.relative_to(ROOT))
         shutil.copy(ROOT / "crates.txt", folder)
-        for name, data in files.items():
-            (folder / name).write_bytes(data)
+        for program, cases in programs.items():
+            (folder / program).mkdir()
+            for name, (given, wanted) in cases.items():
+                (folder / program / name).write_bytes(given)
+                (folder / program / f"{name}.stdout").write_bytes(wanted)
 
     def judge(self, changed):
-        """What becomes of the program with these files changed, on the cases of this room. The code is as it was afterwards."""
+        """What becomes of the programs with these files changed. The code is as it was afterwards."""
         for path, text in changed.items():
             (self.folder / path).write_text(text)
         try:
-            return self.run()
+            return next((verdict for verdict in map(self.run, self.programs) if verdict != SURVIVES), SURVIVES)
         finally:
             for path in changed:
                 (self.folder / path).write_text((ROOT / path).read_text())
 
-    def run(self):
-        """What becomes of the program as it stands in the room. One that doesn't end is told by that."""
+    def run(self, program):
+        """What becomes of a program as it stands in the room. One that doesn't end is told by that."""
         trial = subprocess.Popen(
-            ["rt", "try", self.program],
-            cwd=self.folder,
-            env={**os.environ, "RATTLE_HOME": str(self.kit)},
+            ["rt", "try", "--steps", "1", "--seconds", str(SECONDS), "--cases", self.folder / program],
+            cwd=self.folder / "crates" / program,
+            stdin=subprocess.DEVNULL,
             stdout=subprocess.PIPE,
             stderr=subprocess.STDOUT,
             start_new_session=True,
@@ -103,7 +81,18 @@ class Room:
             return TOLD
         finally:
             end(trial)
-        return self.judged(verdicts_in(said.decode("utf-8", "replace")))
+        return self.verdict(program, trial.returncode, said.decode("utf-8", "replace"))
+
+    def verdict(self, program, status, said):
+        """A program survives if every case ran to its end, with status 0, and gave what it had to."""
+        if status == REFUSED:
+            return NOT_A_PROGRAM
+        if status in (FAULT, DIFFERS, NO_ANSWER):
+            return TOLD
+        ran = re.findall(r"^case=(\S+) run=ended status=(\d+) .*\boutput=expected\b", said, re.M)
+        if status != 0 or sorted(name for name, _ in ran) != sorted(self.programs[program]):
+            raise SystemExit(f"mutation: rt try fails:\n{said}")
+        return SURVIVES if all(ended == "0" for _, ended in ran) else TOLD
 
 
 def end(trial):
@@ -115,72 +104,29 @@ def end(trial):
     trial.wait()
 
 
-def verdicts_in(said):
-    """What is said of each of the four ways to run a program, each with the lines that explain it."""
-    verdicts = [part for part in re.split(r"^(?=ok: |FAIL: |rattle-cases: |rt: )", said, flags=re.MULTILINE) if part]
-    if not verdicts or verdicts[0].startswith(("rattle-cases: ", "rt: ")) and not verdicts[0].startswith(NOT_LOWERED):
-        raise SystemExit(f"mutation: rt try fails:\n{said}")
-    return verdicts
-
-
-def by_the_interpreter(verdicts):
-    """The interpreter's verdict alone, on cases on which it comes to the end of the right program."""
-    if verdicts[0].startswith(NOT_LOWERED):
-        return NOT_A_PROGRAM
-    return SURVIVES if verdicts[0].startswith("ok: the interpreter") else TOLD
-
-
-def by_all(verdicts):
-    """All four verdicts. That a run was not at its end in time, and had written nothing wrong, tells nothing of the interpreter, nor of a
-    program that is slow for its own checks, or not optimised, where it is emulated. The optimised one has to come to its end."""
-    interpreted, *native = verdicts
-    if interpreted.startswith(NOT_LOWERED):
-        return NOT_A_PROGRAM
-    well = interpreted.startswith("ok: the interpreter") or was_well_until(GAVE_UP, interpreted)
-    for verdict in native:
-        slow = EMULATED and " at -O3 " not in verdict and was_well_until(TOO_SLOW, verdict)
-        well = well and (verdict.startswith("ok: the native program") or slow)
-    return SURVIVES if well and len(native) == 3 else TOLD
-
-
-def was_well_until(reason, verdict):
-    """Whether a run was broken off for this reason, and all that it had written was right."""
-    return reason in verdict and 'found ""' in verdict
-
-
-def with_answers(cases):
-    """Cases for the workbench, and what the reference answers."""
-    return {CASES: cases, ANSWERS: reference.answers_to(cases)}
+def cases_of_the_workbench():
+    """The few cases and all of them in parts, each with what the reference answers."""
+    inputs = {"few": few_cases(), **{f"part-{at}": part for at, part in enumerate(parts_of_cases())}}
+    return {name: (given, reference.answers_to(given)) for name, given in inputs.items()}
 
 
 class Rooms:
-    """Rooms for as many trials at a time as are wanted: each has one for the few cases, one for each part of all, and one for the calls."""
+    """Rooms for as many trials at a time as are wanted."""
 
     def __init__(self, jobs):
         self.keeper = tempfile.TemporaryDirectory(prefix="mutation-")
         folder = Path(self.keeper.name)
-        kit, few, parts = kit_without_compiler(folder / "kit"), with_answers(few_cases()), [*map(with_answers, parts_of_cases())]
-        self.free = [
-            (
-                Room(folder / f"few-{job}", "negwafir", few, kit, by_the_interpreter),
-                *(Room(folder / f"part-{at}-{job}", "negwafir", part, the_kit(), by_all) for at, part in enumerate(parts)),
-                Room(folder / f"calls-{job}", "calls", {CALLS_ANSWERS: read(CALLS_ANSWERS)}, the_kit(), by_all),
-            )
-            for job in range(jobs)
-        ]
+        programs = {"negwafir": cases_of_the_workbench(), "calls": {"all": (b"", read(CALLS_ANSWERS))}}
+        self.free = [Room(folder / f"room-{job}", programs) for job in range(jobs)]
         self.lock = threading.Lock()
-        if any(room.run() != SURVIVES for room in self.free[0]):
+        if self.free[0].judge({}) != SURVIVES:
             raise SystemExit("mutation: the code as it is does not give the stored answers, so nothing can be told")
 
     def judge(self, changed):
         with self.lock:
-            rooms = self.free.pop()
+            room = self.free.pop()
         try:
-            for room in rooms:
-                verdict = room.judge(changed)
-                if verdict != SURVIVES:
-                    break
-            return verdict
+            return room.judge(changed)
         finally:
             with self.lock:
-                self.free.append(rooms)
+                self.free.append(room)
