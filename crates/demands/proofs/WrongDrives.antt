@@ -1,5 +1,5 @@
 -- Wrong programs for the float answer. Each theorem is named by one, and says that what it would tell the drive does not meet the contract of `float_answer`, or of
--- `negwafir_float_answer` which C links. `Contracts.antt` says what each may answer. A float is named by the whole number that it is,
+-- `negwafir_float_answer` which C links. `ByContract.antt` says what each may answer. A float is named by the whole number that it is,
 -- and each of these is one (`cast_exactly` in `Exactly.antt` of `floats`).
 use Rattle.std.specs.Prelude.{◌≡◌, refl, Bool, true, false, [], ◌∷◌, ℕ, suc, ◌<◌, ℤ, pos, negsuc, nat_abs, Float}
 use Rattle.std.proofs.Common.{sym, ◌∙◌, ap, subst, true≢false, arith, lit<, pow_pos}

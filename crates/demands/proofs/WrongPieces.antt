@@ -1,5 +1,5 @@
 -- Wrong programs for one piece. Each theorem is named by one, and says that what it would answer of a piece does not meet the contract: of `judge`, of `is_monotone` which judge
--- asks, of `coefficients`, or of `negwafir_judge` which C links. `Contracts.antt` says what each may answer.
+-- asks, of `coefficients`, or of `negwafir_judge` which C links. `ByContract.antt` says what each may answer.
 use Rattle.std.specs.Prelude.{refl, Bool, true, false, not, ℕ, T, ℤ, pos, negsuc}
 use Rattle.std.proofs.Common.{ap, arith, lit≤}
 use Rattle.std.specs.Int.Signed.{lt_z_yes}

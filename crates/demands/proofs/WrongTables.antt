@@ -1,4 +1,4 @@
--- Wrong programs for tables. Each theorem is named by one, and says that what it would answer, and leave in the lists, does not meet the contract. `Contracts.antt` says what each
+-- Wrong programs for tables. Each theorem is named by one, and says that what it would answer, and leave in the lists, does not meet the contract. `ByContract.antt` says what each
 -- function may answer. A wrong program that breaks one of the demands stands in `Wrong1.antt`, `Wrong2.antt`, `WrongEnds.antt`, `WrongUnits.antt` or `Wrong3.antt`.
 use Rattle.std.specs.Prelude.{◌≡◌, refl, List, [], ◌∷◌, ℕ, ℤ, pos, negsuc, length}
 use Rattle.std.proofs.Common.{◌∙◌, ap, arith, lit<, lit≤}

@@ -1,5 +1,5 @@
 -- Our two implementations, made of the contracts of the functions themselves: `NAME.Pre` is what a function requires, as the prover reads it off its header, and what it
--- ensures has a short name in `Contracts.antt`. One is the Rattle functions, the other those that C links.
+-- ensures has a short name in `ByContract.antt`. One is the Rattle functions, the other those that C links.
 use Rattle.std.specs.Prelude.{◌≡◌, ℕ, ℤ}
 use Rattle.table.specs.declared.changed.Change.{Change}
 use Rattle.table.specs.Table.{Table}
