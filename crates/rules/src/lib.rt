@@ -55,6 +55,7 @@ pub fn unit(s: u32) -> i64
 }
 
 // Whether a number of points is in 2 to 1,024.
+#[tactic(auto, using(crate::proofs::Counted::too_few, crate::proofs::Counted::if_not_too_many))]
 pub fn count_within(n: usize) -> bool
     ensures { Decided (CountWithin n) result }
 {

@@ -4,12 +4,11 @@ use Prim.Native.Nat.{ℕ, ◌*◌, ◌%◌, ◌^◌, ◌<◌}
 use native.Mathlib.Omega.{arith}
 use native.Mathlib.Nat.{mod-eq_of_lt, one-mul}
 use lib.Pow.{pow-lt}
-use lib.IntN.{ℤ}
 use mir.Syntax.{w64}
 use mir.Val.{to_z}
 use mir.Facts.{to_z_pos}
 use borrow.Author.Rules.{rules}
-use Rattle.rules.specs.Limits.{unit, UnitWithin}
+use Rattle.rules.specs.Limits.{unit}
 use Rattle.rules.specs.Known.{UnitSize, unit_size}
 use Rattle.rules.proofs.unit.Statement.{statement}
 use Rattle.rules.proofs.unit.Tie as tie
