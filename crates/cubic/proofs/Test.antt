@@ -5,7 +5,7 @@ use Rattle.std.proofs.Common.{inl, inr, ⊎_elim, arith}
 use Rattle.integers.specs.Linear.{lin, says}
 use Rattle.integers.specs.Order.{0≤_number, ≤ℤ_or-<ℤ, pos-≤}
 use Rattle.cubic.specs.Piece.{NeverAgainst}
-use Rattle.cubic.specs.Slope.{ellipse, over, InEllipse, steep, turn}
+use Rattle.cubic.specs.Slope.{over, InEllipse, steep, turn}
 use Rattle.cubic.proofs.Slope.{below_line, in_ellipse, ellipse_over}
 use Rattle.cubic.proofs.Never.{start_not_against, end_not_against, least_inside, inside_ellipse}
 use Rattle.cubic.specs.Test.{FritschCarlson, OneHolds, Short, inside, left, line, oval, right, sum}

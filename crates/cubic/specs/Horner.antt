@@ -1,5 +1,5 @@
 -- The cubic first·t·h² + second·t²·h + third·t³ by Horner's steps, and what it is for each of them to be within a bound.
-use Rattle.std.specs.Prelude.{ℕ, ◌*◌, ℤ, ◌+ℤ◌, ◌*ℤ◌}
+use Rattle.std.specs.Prelude.{ℕ, ℤ, ◌+ℤ◌, ◌*ℤ◌}
 use Rattle.integers.specs.Within.{Within}
 
 abbrev pub by_horner : (first second third t h : ℤ) → ℤ

@@ -1,13 +1,12 @@
 -- Whatever meets the three demands never backs up, and so ours does not, as Rattle functions and as the library for C.
-use Rattle.std.specs.Prelude.{◌≡◌, refl, ◌⊎◌, List, [], ℕ, ◌+◌, ◌-◌, ◌<◌, ℤ, pos, ◌≤ℤ◌, ◌<ℤ◌, length}
-use Rattle.std.proofs.Common.{sym, ◌∙◌, subst, subst₂, inl, inr, arith}
+use Rattle.std.specs.Prelude.{◌≡◌, refl, ◌⊎◌, List, [], ℕ, ◌+◌, ◌-◌, ◌<◌, ℤ, pos, ◌≤ℤ◌, length}
+use Rattle.std.proofs.Common.{sym, subst, subst₂, inl, inr, arith}
 use Rattle.std.specs.Int.Signed.{≤ℤ_refl}
 use Rattle.integers.specs.Order.{≤ℤ_trans, 0≤_number, pos-≤}
 use Rattle.cubic.specs.Piece.{Monotone}
 use Rattle.cubic.specs.Along.{Along, not_falling, not_rising, Amid, upwards, downwards, amid_on_the_way}
 use Rattle.cubic.proofs.InOrder.{from_nothing, to_the_whole}
 use Rattle.cubic.proofs.Fractions.{in_order_at_any_two_fractions}
-use Rattle.rules.specs.Limits.{unit}
 use Rattle.rules.specs.Refusals.{Given}
 use Rattle.rules.specs.Order.{one_given, passes_at_0}
 use Rattle.table.specs.declared.changed.Change.{Change}

@@ -11,7 +11,7 @@ use Rattle.slopes.specs.Slopes.{built_slopes}
 use Rattle.slopes.specs.Put.{put}
 use Rattle.change.specs.Change.{Renews, before_it, at_it, behind_it, slope_0, the_last, Changed}
 use Rattle.change.specs.Figures.{made, point_1_moved_onto_point_2}
-use Rattle.demands.specs.Demands.{Call, point, Outcome, none, next, JustThis, Demand3}
+use Rattle.demands.specs.Demands.{Call, Outcome, none, next, JustThis, Demand3}
 use Rattle.demands.proofs.SixteenGiven.{eighth, count, has_slopes}
 use Rattle.demands.specs.Refuting.{numbers_differ}
 use Rattle.demands.proofs.Programs.{outcome, answering, another_point, four, four_built, lowering, lowered, lowered_within, is_lowered, lowered_built}

@@ -1,5 +1,5 @@
 -- Wrong programs that break the second demand at an end of a table, where request 2 of document 02 gives the rule, each ours but for what is said of it.
-use Rattle.std.specs.Prelude.{◌≡◌, refl, Bool, false, cond, ◌&&◌, ◌||◌, List, [], ◌∷◌, ℕ, zero, suc, ◌-◌, ◌≤◌, ◌<◌, ltb, ℤ, pos, negsuc, ◌+ℤ◌, ◌-ℤ◌, ◌*ℤ◌, length, set}
+use Rattle.std.specs.Prelude.{◌≡◌, refl, Bool, false, cond, ◌&&◌, ◌||◌, List, [], ◌∷◌, ℕ, zero, suc, ◌-◌, ◌<◌, ltb, ℤ, pos, negsuc, ◌+ℤ◌, ◌-ℤ◌, ◌*ℤ◌, length, set}
 use Rattle.std.proofs.Common.{◌∙◌, ap, ⊎_elim, arith, lit<, lt-ltb, le-ltb}
 use Rattle.std.specs.Int.Signed.{lt_z}
 use Rattle.integers.specs.Promise.{floor_of, magnitude, with_sign, toward_zero}

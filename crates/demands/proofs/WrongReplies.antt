@@ -13,7 +13,6 @@ use Rattle.replies.specs.declared.Reply.TheVariants.{Silent, Wrong, Done, Count,
 use Rattle.replies.specs.Floats.{float_as}
 use Rattle.replies.specs.Replies.{fault_line, line_of}
 use Rattle.demands.specs.ByContract.{to_change}
-use Rattle.demands.proofs.InstancesBelow.{bytes}
 use Rattle.demands.specs.Refuting.{lists_differ}
 use Rattle.replies.proofs.append_reply.Reads as replies-append_reply
 

@@ -1,18 +1,15 @@
 -- Wrong programs for tables. Each theorem is named by one, and says that what it would answer, and leave in the lists, does not meet the contract. `ByContract.antt` says what each
 -- function may answer. A wrong program that breaks one of the demands stands in `Wrong1.antt`, `Wrong2.antt`, `WrongEnds.antt`, `WrongUnits.antt` or `Wrong3.antt`.
-use Rattle.std.specs.Prelude.{◌≡◌, refl, List, [], ◌∷◌, ℕ, ℤ, pos, negsuc, length}
+use Rattle.std.specs.Prelude.{◌≡◌, refl, List, [], ◌∷◌, ℕ, ℤ, pos, negsuc}
 use Rattle.std.proofs.Common.{◌∙◌, ap, arith, lit<, lit≤}
 use Rattle.cubic.specs.Piece.{Monotone}
 use Rattle.rules.specs.Limits.{unit}
 use Rattle.rules.specs.Order.{one_given, answer_right}
 use Rattle.table.specs.declared.changed.Change.{Change}
 use Rattle.table.specs.Table.{Table, table, lengths_differ, not_monotone}
-use Rattle.table.specs.Accepted as Limits
 use Rattle.table.specs.Accepted.{unit_passes, same_length_passes, count_passes, points_accepted}
 use Rattle.table.specs.Tested.{points_by_test}
 use Rattle.table.specs.WouldBe.{of_points, no_such_point}
-use Rattle.slopes.specs.Slopes.{built_slopes}
-use Rattle.slopes.specs.EveryPiece.{a_built_table_passes_the_table_check}
 use Rattle.position.specs.declared.Sought.{Sought}
 use Rattle.position.specs.declared.Sought.TheVariants.{Outside, On}
 use Rattle.position.specs.Position.{Belongs, at_last_knot, of_table, Located}
@@ -20,7 +17,7 @@ use Rattle.position.specs.Pieces.{one_piece}
 use Rattle.position.specs.Spot.{sought_outside, sought_on}
 use Rattle.position.specs.Refused.{accepted_at}
 use Rattle.curve.specs.Curve.{value_on, Evaluated}
-use Rattle.demands.proofs.SixteenGiven.{eighth, count, has_slopes}
+use Rattle.demands.proofs.SixteenGiven.{eighth, count}
 use Rattle.demands.specs.ByContract.{PointsAnswer, PointsAnswerC, Checks, ChecksC, Builds, BuildsC, AskedRenewal, RenewsTo, ChangedPoints, ChangedPointsC, Changes, ChangesC, AskedStep, Steps, Locates, LocatesC, AskedSeek, Seeks, Evaluates, EvaluatesC}
 use Rattle.demands.specs.Refuting.{within, overlooked, so_it_holds, no_unit, too_narrow, too_high, against_its_rise, below_the_line, in_piece, no_bad_width, no_bad_rise, no_bend, no_bad_width_then, the_point_is_there, no_bend_there, not_outside, answers_nothing, numbers_differ, lists_differ}
 

@@ -2,7 +2,6 @@
 use Rattle.std.specs.Prelude.{◌≡◌, refl, List, [], ◌∷◌, ℕ, ℤ, pos, length}
 use Rattle.std.proofs.Common.{ap, arith}
 use Rattle.std.specs.Borrow.{Bor, MutBor}
-use Rattle.table.specs.Table.{Table}
 use Rattle.demands.specs.ByContract.{to_change}
 use Rattle.demands.specs.Ties.{Tied, result, contents, TiedWhere, with_first, with_third, with_three}
 

@@ -15,7 +15,7 @@ use Rattle.rules.specs.Order.{one_given}
 use Rattle.piece.specs.declared.Cubic.{Cubic}
 use Rattle.piece.specs.Cubic.{Coefficients}
 use Rattle.piece.specs.Determined.{one_verdict}
-use Rattle.table.specs.Table.{Table, table}
+use Rattle.table.specs.Table.{Table}
 use Rattle.table.specs.Accepted.{PointsWithin}
 use Rattle.slopes.specs.Determined.{one_build}
 use Rattle.position.specs.declared.Spot.{Spot}

@@ -1,5 +1,5 @@
 -- `drive::answer_on` meets its contract: a piece that is too large is refused, and of any other the drive is told.
-use mathlib.Core.Path.{◌≡◌, sym, subst, subst₂}
+use mathlib.Core.Path.{sym, subst, subst₂}
 use mathlib.Core.List.{List, [], ◌∷◌}
 use borrow.Author.Rules.{rules}
 use lib.IntN.{ℤ}
