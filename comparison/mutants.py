@@ -26,12 +26,14 @@ ARITHMETIC = {
     "*": ("+",),
     "/": ("*",),
     "%": ("/",),
+    "<<": (">>",),
     "+=": ("-=",),
     "-=": ("+=",),
 }
+METHODS = {"min": ("max",), "max": ("min",), "all": ("any",)}
 LOGIC = {"&&": ("||",), "||": ("&&",), "true": ("false",), "false": ("true",)}
 WHOLE_TYPES = ("usize", "u64", "u32", "i64", "i32")
-NEVER_DROPPED = ("let", "return", "break", "if", "while", "match", "loop", "else")
+NEVER_DROPPED = ("let", "return", "break", "continue", "if", "while", "for", "match", "loop", "else")
 
 
 # ---- operators, numbers and names
@@ -45,7 +47,7 @@ def exchanged(body, table, is_meant):
 
 
 def comparisons(body):
-    yield from exchanged(body, COMPARISONS, lambda place: True)
+    yield from exchanged(body, COMPARISONS, lambda place: place not in body.file.partners)
 
 
 def arithmetic(body):
@@ -56,10 +58,15 @@ def logic(body):
     yield from exchanged(body, LOGIC, lambda place: True)
 
 
+def methods(body):
+    """The larger of two is the smaller, and what has to hold for all has to hold for one."""
+    yield from exchanged(body, METHODS, lambda place: body.text(place - 1) == ".")
+
+
 def signs(body):
     """A minus or a `!` before an operand is dropped."""
     for place in body.places():
-        if body.text(place) == "!" or body.text(place) == "-" and not body.is_operand(place - 1):
+        if body.text(place) in ("!", "-") and not body.is_operand(place - 1):
             yield [body.replace(place, place + 1, "")]
 
 
@@ -86,7 +93,7 @@ def texts(body):
     for place in body.places():
         token = body.tokens[place]
         if token.kind == "text":
-            kept = 2 if "\\" in token.text else len(token.text) - 2
+            kept = 2 if "\\" in token.text else max(2, len(token.text) - 2)
             yield [body.replace(place, place + 1, token.text[:kept] + "~" + token.text[-1])]
 
 
@@ -113,8 +120,9 @@ def names(body):
     """Each use of a variable is the next of the same type, the first being next to the last."""
     for place in body.places():
         if body.is_variable(place) and body.types[body.text(place)]:
-            alike = [name for name in body.types if body.types[name] == body.types[body.text(place)]]
-            if len(alike) > 1:
+            kind = body.types[body.text(place)]
+            alike = [name for name in body.types if body.types[name] == kind and place in body.scopes[name]]
+            if len(alike) > 1 and body.text(place) in alike:
                 other = alike[(alike.index(body.text(place)) + 1) % len(alike)]
                 yield [body.replace(place, place + 1, as_field(body, place) + other)]
 
@@ -131,7 +139,7 @@ def as_field(body, place):
     while opened > body.first and body.text(opened) not in ("{", "(", "[", ";", "=>"):
         opened = body.file.partners[opened] - 1 if body.text(opened) in (")", "]", "}") else opened - 1
     is_alone = body.text(place - 1) in (",", "{") and body.text(place + 1) in (",", "}")
-    is_literal = body.text(opened) == "{" and body.project.fields_of(body.text(opened - 1)) is not None
+    is_literal = body.text(opened) == "{" and body.fields_at(opened - 1) is not None
     return f"{body.text(place)}: " if is_alone and is_literal else ""
 
 
@@ -139,7 +147,7 @@ def fields(body):
     """Each use of a field is another field of the same type."""
     for place in body.places():
         if body.text(place - 1) == "." and body.text(place + 1) != "(":
-            for other in body.project.siblings_of_field(body.text(place)):
+            for other in body.project.siblings_of_field(body.text(place), body.owner_of(place)):
                 yield [body.replace(place, place + 1, other)]
 
 
@@ -155,20 +163,38 @@ def lengths(body):
     """Each length is one more or less."""
     for place in body.places():
         if body.text(place) == "len" and body.text(place + 1) == "(":
-            whole = body.source(place - 2, place + 3)
+            start = body.start_of(place)
+            whole = body.source(start, place + 3)
             for new in (f"({whole} + 1)", f"({whole} - 1)"):
-                yield [body.replace(place - 2, place + 3, new)]
+                yield [body.replace(start, place + 3, new)]
 
 
 def entries(body):
     """Each index, and each end of a range, is one more or less."""
     for place in body.places():
+        ends = ()
         if body.text(place) == "[" and body.is_operand(place - 1):
-            first, last = place + 1, body.file.partners[place]
-            dots = [at for at in range(first, last) if body.text(at) == ".."]
-            for begin, end in ((first, dots[0]), (dots[0] + 1, last)) if dots else ((first, last),):
-                if begin < end and body.tokens[begin].kind == "name":
-                    yield from one_more_or_less(body, begin, end)
+            whole = place + 1, body.file.partners[place]
+            ends = () if ".." in body.file.texts(*whole) else (whole,)
+        elif body.text(place) in ("..", "..=") and body.text(place - 1) != "@":
+            ends = (before(body, place), place), (place + 1, behind(body, place + 1))
+        for begin, end in ends:
+            if begin < end and body.tokens[begin].kind == "name":
+                yield from one_more_or_less(body, begin, end)
+
+
+def before(body, place):
+    """Where the expression begins that ends before a place."""
+    while body.text(place - 1) not in ("(", "[", "{", ",", "in"):
+        place = body.file.partners[place - 1] if body.text(place - 1) in (")", "]") else place - 1
+    return place
+
+
+def behind(body, place):
+    """Where the expression ends that begins at a place."""
+    while body.text(place) not in (")", "]", "{", ","):
+        place = body.file.past(place)
+    return place
 
 
 def whole_names(body):
@@ -203,7 +229,7 @@ def argument_types(body, place, count):
     callee = body.project.called(body.text(place), body.file.path, count)
     if callee:
         return list(callee.parameters.values())
-    carried = body.project.fields_of(body.text(place))
+    carried = body.fields_at(place)
     return list(carried.values()) if carried else [None] * count
 
 
@@ -236,20 +262,30 @@ def alike(project, callee):
 
 
 def cases(body):
-    """Each case of an enum that is made is another that carries the same types."""
+    """Each case of an enum that is made, or asked for by a `let`, is one of those beside it that carry the same types."""
     for place in body.places():
-        if body.is_case(place) and not body.is_pattern(place):
+        if body.is_case(place) and (not body.is_pattern(place) or body.text(place - 1) == "let"):
             prefix, _, case = body.text(place).rpartition("::")
-            of_enum = body.project.enums[prefix.split("::")[-1]]
-            for other in of_enum:
-                if other != case and list(of_enum[other].values()) == list(of_enum.get(case, {}).values()):
-                    yield [body.replace(place, place + 1, f"{prefix}::{other}")]
+            carried = body.project.cases_of(prefix.split("::")[-1], body.file.path)
+            alike = [other for other in carried if list(carried[other].values()) == list(carried.get(case, {}).values())]
+            for other in both_sides(alike, case) if case in alike else ():
+                yield [body.replace(place, place + 1, f"{prefix}::{other}")]
+
+
+def results(body):
+    """What is given is nothing, and what is refused is done."""
+    for place in body.places():
+        if body.is_called(place) and not body.is_pattern(place):
+            if body.text(place) == "Some":
+                yield [body.replace(place, body.file.past(place + 1), "None")]
+            if body.text(place) == "Err" and body.function.result.startswith("Result<(),"):
+                yield [body.replace(place, body.file.past(place + 1), "Ok(())")]
 
 
 def literals(body):
     """Two fields of one type, in what makes a struct, get each other's value."""
     for place in body.places():
-        types = body.project.fields_of(body.text(place))
+        types = body.fields_at(place)
         if types and body.tokens[place].kind == "name" and body.text(place + 1) == "{" and not body.is_pattern(place):
             parts = body.arguments(place)
             for one, other in combinations(parts, 2):
@@ -273,7 +309,7 @@ def given(body, part, other):
 def conditions(body):
     """Each condition always holds, or never does: then a guard is as good as dropped."""
     for place in body.places():
-        if body.text(place) in ("if", "while") and body.text(place + 1) != "let":
+        if body.text(place) in ("if", "while") and (body.text(place + 1) != "let" or body.text(place + 3) == "="):
             for new in ("true", "false") if body.text(place) == "if" else ("false",):
                 yield [body.replace(place + 1, body.file.find("{", place), new)]
 
@@ -294,7 +330,7 @@ def arms_of(body, place, last):
         begin = body.file.find("=>", place) + 1
         end = begin
         while end < last and body.text(end) != ",":
-            end = body.end_of(end)
+            end = body.file.past(end)
             if body.text(begin) == "{":
                 break
         yield begin, end
@@ -307,14 +343,14 @@ def dropped(body):
         if body.text(place - 1) in (";", "{", "}") and body.tokens[place].text not in NEVER_DROPPED:
             end = place
             while end < body.last and body.text(end) not in (";", ",", "}", "=>", ":"):
-                end = body.end_of(end)
-            if body.text(end) == ";" and body.text(place) not in ("}", ";"):
+                end = body.file.past(end)
+            if body.text(end) == ";" and (body.tokens[place].kind == "name" or body.text(place) == "*"):
                 yield [body.replace(place, end + 1, "")]
 
 
 KINDS = (
-    comparisons, arithmetic, logic, signs, numbers, texts, constants, names, fields, lengths, entries, whole_names,
-    arguments, repeated, siblings, cases, literals, conditions, arms, dropped,
+    comparisons, arithmetic, logic, methods, signs, numbers, texts, constants, names, fields, lengths, entries, whole_names,
+    arguments, repeated, siblings, cases, results, literals, conditions, arms, dropped,
 )
 
 

@@ -8,27 +8,30 @@ from bisect import bisect_right
 from collections import namedtuple
 
 Token = namedtuple("Token", "kind text start end")
-Function = namedtuple("Function", "name path parameters result first last")  # its body is tokens[first:last]
+Function = namedtuple("Function", "name path owner parameters result first last")  # its body is tokens[first:last]; a method is of an owner
 Fields = namedtuple("Fields", "name types")  # a struct's, or those of an enum's case: a type for each name or place
 
 TOKEN = re.compile(
     r"""
       (?P<gap>\s+|//[^\n]*)
     | (?P<text>b?"(?:\\.|[^"\\])*"|b?'(?:\\.|[^'\\])')
+    | (?P<lifetime>'[A-Za-z_]\w*)
     | (?P<number>[0-9]+(?:\.[0-9]+)?(?:[ui](?:8|16|32|64|size))?)
     | (?P<name>[A-Za-z_]\w*(?:::[A-Za-z_]\w*)*)
-    | (?P<sign>\.\.|->|=>|==|!=|<=|>=|&&|\|\||\+=|-=|[-+*/%<>=!&|.,:;(){}\[\]\#?])
+    | (?P<sign>\.\.=?|->|=>|==|!=|<=|>=|&&|\|\||\+=|-=|<<|[-+*/%<>=!&|.,:;(){}\[\]\#?@])
     """,
     re.VERBOSE,
 )
-PROOF_ONLY = re.compile(r"^[ \t]*(?:ghost use|requires|ensures)\b.*$", re.MULTILINE)
-WORDS = {"return", "if", "else", "while", "loop", "match", "as", "let", "mut", "break", "true", "false"}
+PROOF_ONLY = re.compile(r"^[ \t]*(?:ghost use\b[^;]*;|(?:ghost|requires|ensures)\b[^{};]*\{[^{}]*\}[,;]?)", re.MULTILINE)
+WORDS = {
+    "return", "if", "else", "while", "loop", "for", "in", "match", "as", "let", "mut", "break", "continue", "true", "false",
+}
 OPENING, CLOSING = "([{", ")]}"
 
 
 def tokens_of(source):
-    """The tokens of the code, without those of comments and of lines that are there for the prover alone."""
-    code = PROOF_ONLY.sub(lambda line: " " * len(line.group()), source)
+    """The tokens of the code, without those of comments and of what is there for the prover alone."""
+    code = PROOF_ONLY.sub(lambda part: " " * len(part.group()), source)
     tokens, at = [], 0
     while at < len(code):
         found = TOKEN.match(code, at)
@@ -41,20 +44,22 @@ def tokens_of(source):
 
 
 def partners_of(tokens):
-    """For each bracket the place of the one that it belongs to."""
+    """For each bracket the place of the one that it belongs to. `<` and `>` are brackets where no gap is before them."""
     partners, opened = {}, []
     for place, token in enumerate(tokens):
-        if token.text in OPENING:
+        is_close = place > 0 and tokens[place - 1].end == token.start
+        if token.text in OPENING or token.text == "<" and is_close:
             opened.append(place)
-        elif token.text in CLOSING:
+        elif token.text in CLOSING or token.text == ">" and is_close:
             partner = opened.pop()
             partners[partner], partners[place] = place, partner
     return partners
 
 
 def plain_type(tokens):
-    """A type without what a loan adds: `&mut [i32]` is `[i32]`."""
-    return "".join(token.text for token in tokens if token.text not in ("&", "mut"))
+    """A type without what a loan adds: `&mut [i32]` is `[i32]`, and `Table<'_>` is `Table`."""
+    kept = (token.text for token in tokens if token.text not in ("&", "&&", "mut") and token.kind != "lifetime")
+    return "".join(kept).replace("<>", "")
 
 
 class File:
@@ -65,6 +70,7 @@ class File:
         self.tokens = tokens_of(source)
         self.partners = partners_of(self.tokens)
         self.lines = [0] + [found.end() for found in re.finditer("\n", source)]
+        self.owners = list(self.declared("impl", self.owner))
         self.functions = list(self.declared("fn", self.function))
         self.structs = list(self.declared("struct", self.struct))
         self.enums = list(self.declared("enum", self.enum))
@@ -78,10 +84,14 @@ class File:
     def texts(self, first, last):
         return [token.text for token in self.tokens[first:last]]
 
+    def past(self, place):
+        """The place after a token, or after the bracket that it opens."""
+        return max(place, self.partners.get(place, place)) + 1
+
     def find(self, text, place):
         """The next place that has this text, outside of any bracket that opens on the way."""
         while self.tokens[place].text != text:
-            place = self.partners[place] + 1 if self.tokens[place].text in OPENING else place + 1
+            place = self.past(place)
         return place
 
     def parts(self, first, last):
@@ -91,28 +101,40 @@ class File:
             if self.tokens[place].text == ",":
                 yield begin, place
                 begin = place + 1
-            place = self.partners[place] + 1 if self.tokens[place].text in OPENING else place + 1
+            place = self.past(place)
         if begin < last:
             yield begin, last
 
     def typed(self, first, last):
-        """`name: type` of each part, as a dictionary."""
+        """`name: type` of each part that is so, and not `self`, as a dictionary."""
         found = {}
         for begin, end in self.parts(first, last):
-            colon = self.find(":", begin)
-            found[self.tokens[colon - 1].text] = plain_type(self.tokens[colon + 1 : end])
+            if ":" in self.texts(begin, end):
+                colon = self.find(":", begin)
+                found[self.tokens[colon - 1].text] = plain_type(self.tokens[colon + 1 : end])
         return found
 
+    def owner(self, place):
+        """The type whose methods an impl has, and the places of these."""
+        opened = self.find("{", place)
+        if "for" in self.texts(place, opened):
+            name = self.find("for", place) + 1
+        else:
+            name = self.past(place) if self.tokens[place].text == "<" else place
+        return self.tokens[name].text, opened, self.partners[opened]
+
     def function(self, place):
-        opened = place + 1
+        opened = self.find("(", place)
         closed = self.partners[opened]
         body = self.find("{", closed + 1)
+        owner = next((name for name, first, last in self.owners if first < place < last), None)
         result = plain_type(self.tokens[closed + 2 : body])
         parameters = self.typed(opened + 1, closed)
-        return Function(self.tokens[place].text, self.path, parameters, result, body + 1, self.partners[body])
+        return Function(self.tokens[place].text, self.path, owner, parameters, result, body + 1, self.partners[body])
 
     def struct(self, place):
-        return Fields(self.tokens[place].text, self.typed(place + 2, self.partners[place + 1]))
+        opened = self.find("{", place)
+        return Fields(self.tokens[place].text, self.typed(opened + 1, self.partners[opened]))
 
     def enum(self, place):
         """An enum's name, and for each case the types that it carries."""

@@ -87,8 +87,8 @@ class Room:
         """A program survives if every case ran to its end, with status 0, and gave what it had to."""
         if status == REFUSED:
             return NOT_A_PROGRAM
-        if status in (FAULT, DIFFERS, NO_ANSWER):
-            return TOLD
+        if status in (FAULT, DIFFERS, NO_ANSWER) or re.search(r"^case=\S+ run=no-answer\b", said, re.M):
+            return TOLD  # also where the run broke off after a case that did not end
         ran = re.findall(r"^case=(\S+) run=ended status=(\d+) .*\boutput=expected\b", said, re.M)
         if status != 0 or sorted(name for name, _ in ran) != sorted(self.programs[program]):
             raise SystemExit(f"mutation: rt try fails:\n{said}")

@@ -1,10 +1,6 @@
 -- Laws of texts that are passed one by one.
-use Prim.Native.Nat.{ℕ, zero, suc, ◌+◌, ◌-◌, ◌<◌}
-use Rattle.std.specs.Prelude.{◌≡◌, refl, List, []}
-use Rattle.std.proofs.Math.Path.{ap}
-use Rattle.std.proofs.Common.{◌∙◌, drop-drop}
-use native.Mathlib.Omega.{arith}
-use Rattle.std.proofs.Math.ListN.{take, drop}
+use Rattle.std.specs.Prelude.{ℕ, zero, suc, ◌+◌, ◌-◌, ◌≤◌, ◌<◌, ◌≡◌, refl, List, [], length, take, drop}
+use Rattle.std.proofs.Common.{ap, ◌∙◌, arith, drop-drop, drop_of_length-le}
 use Rattle.words.specs.Words.{front, part_of}
 use Rattle.words.specs.Lines.{other, first_of}
 use Rattle.answers.specs.Texts.{entry_of}
@@ -33,3 +29,10 @@ module _ (texts : List ℕ) (start : ℕ) where
       let place : start + suc (0 + n) ≡ start + n + 1 = omega arith in
       ap (λ (m : ℕ). entry_of m (drop start texts)) one_more
       ∙ ap (entry_of (k - (i + 1))) (drop-drop (suc (0 + n)) start texts ∙ ap (λ (m : ℕ). drop m texts) place)
+
+  -- and is empty where there is no LF
+  pub no_later : (k i : ℕ) → i < k → length texts ≤ first_of 10 texts start → entry_of (k - i) (drop start texts) ≡ []
+  no_later k i h out = later k i h ∙ ap (entry_of (k - (i + 1))) (drop_of_length-le texts (omega arith)) ∙ none (k - (i + 1))
+
+-- what a walk over the texts asks
+pub ruleset passing_laws = (first, later, no_later)

@@ -1,12 +1,12 @@
 // Templates, filled in: `#` is the place of the next number, `$` that of the text, and any other byte stands for itself.
-ghost use Rattle.std.specs.Prelude.{◌+◌, ◌<◌, ◌≡◌, cond, eqb, [], ◌∷◌, drop};
+ghost use Rattle.std.specs.Prelude.{◌≡◌};
 ghost use Rattle.words.specs.Lines.{Appended};
-ghost use Rattle.answers.specs.Filling.{natural_as, whole_as, signed_text, next_text, in_place, filled};
+ghost use Rattle.answers.specs.Filling.{natural_as, whole_as, signed_text, filled};
 
 use decimals::append_natural;
 use words::append;
 
-// A number as it is written: -0 too, which a float can be.
+// A number as it is written: a sign and a size, since a float can be -0.
 #[derive(Clone, Copy)]
 pub struct Signed {
     pub negative: bool,
@@ -14,123 +14,59 @@ pub struct Signed {
 }
 
 // A number that is not negative, as it is written.
-pub fn natural(n: u64) -> Signed
-    ensures { result ≡ natural_as n }
-{
-    Signed {
-        negative: false,
-        size: n,
+impl From<u64> for Signed {
+    ghost from_gives = { λ n s. s ≡ natural_as n };
+
+    fn from(n: u64) -> Signed {
+        Signed {
+            negative: false,
+            size: n,
+        }
     }
 }
 
-// A whole number, as it is written. The least number has no positive counterpart, so its way goes by -1.
-pub fn whole(n: i64) -> Signed
-    ensures { result ≡ whole_as n }
-{
-    if n < 0 {
-        return Signed {
-            negative: true,
-            size: ((-1 - n) as u64) + 1,
-        };
+// A whole number, as it is written.
+impl From<i64> for Signed {
+    ghost from_gives = { λ n s. s ≡ whole_as n };
+
+    fn from(n: i64) -> Signed {
+        Signed {
+            negative: n < 0,
+            size: n.unsigned_abs(),
+        }
     }
-    natural(n as u64)
 }
 
 // The same for a number of 32 bits.
-pub fn whole32(n: i32) -> Signed
-    ensures { result ≡ whole_as n }
-{
-    whole(n as i64)
+impl From<i32> for Signed {
+    ghost from_gives = { λ n s. s ≡ whole_as n };
+
+    fn from(n: i32) -> Signed {
+        Signed::from(i64::from(n))
+    }
 }
 
 // Fills a template in behind the first `held` bytes of `into`, as far as there is room, and answers how many bytes stand there then: each `#` is the next of
-// three numbers, and nothing after the third, each `$` the text, and any other byte itself. The last step appends nothing, for a template that is empty: no more
+// the numbers, and nothing after the last, each `$` the text, and any other byte itself. The last step appends nothing, for a template that is empty: no more
 // bytes stand there than the buffer has.
-pub fn fill(
-    into: &mut [u8],
-    held: usize,
-    template: &[u8],
-    text: &[u8],
-    first: Signed,
-    second: Signed,
-    third: Signed,
-) -> usize
-    ensures { Appended into.old held (filled template.now text.now (first ∷ second ∷ third ∷ [])) into.new result }
+pub fn fill(into: &mut [u8], held: usize, template: &[u8], text: &[u8], numbers: &[Signed]) -> usize
+    ensures { Appended into.old held (filled template.now text.now numbers.now) into.new result }
 {
     let mut n = held;
-    let mut k = 0;
-    let mut i = 0;
-    while i < template.len() {
-        let b = template[i];
-        n = place(into, n, b, text, k, first, second, third);
-        k = passed(b, k);
-        i += 1;
+    let mut left = numbers;
+    for b in template {
+        match *b {
+            b'#' => {
+                if let Some((number, others)) = left.split_first() {
+                    n = append_signed(into, n, *number);
+                    left = others;
+                }
+            }
+            b'$' => n = append(into, n, text),
+            itself => n = append(into, n, &[itself]),
+        }
     }
-    append(into, n, &text[..0])
-}
-
-// Puts what stands for the byte b of a template, where k numbers have been passed.
-fn place(
-    into: &mut [u8],
-    held: usize,
-    b: u8,
-    text: &[u8],
-    k: usize,
-    first: Signed,
-    second: Signed,
-    third: Signed,
-) -> usize
-    ensures { Appended into.old held (in_place b text.now (drop k (first ∷ second ∷ third ∷ []))) into.new result }
-{
-    if b == 35 {
-        return append_next(into, held, k, first, second, third);
-    }
-    if b == 36 {
-        return append(into, held, text);
-    }
-    let itself = [b];
-    append(into, held, &itself)
-}
-
-// How many numbers have been passed behind the byte b, where k were before it.
-fn passed(b: u8, k: usize) -> usize
-    requires { k < 18446744073709551615 }
-    ensures { result ≡ cond (eqb b 35) (k + 1) k }
-{
-    if b == 35 {
-        return k + 1;
-    }
-    k
-}
-
-// Puts the next of three numbers, of which k have been passed; nothing where that is all of them.
-fn append_next(
-    into: &mut [u8],
-    held: usize,
-    k: usize,
-    first: Signed,
-    second: Signed,
-    third: Signed,
-) -> usize
-    ensures { Appended into.old held (next_text (drop k (first ∷ second ∷ third ∷ []))) into.new result }
-{
-    if k < 3 {
-        return append_signed(into, held, pick(k, first, second, third));
-    }
-    append(into, held, b"")
-}
-
-fn pick(k: usize, first: Signed, second: Signed, third: Signed) -> Signed
-    requires { k < 3 }
-    ensures { next_text (drop k (first ∷ second ∷ third ∷ [])) ≡ signed_text result }
-{
-    if k == 0 {
-        return first;
-    }
-    if k == 1 {
-        return second;
-    }
-    third
+    append(into, n, b"")
 }
 
 fn append_signed(into: &mut [u8], held: usize, number: Signed) -> usize

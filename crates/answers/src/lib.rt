@@ -4,5 +4,5 @@
 mod filling;
 mod texts;
 
-pub use filling::{Signed, fill, natural, whole, whole32};
+pub use filling::{Signed, fill};
 pub use texts::entry;

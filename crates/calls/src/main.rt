@@ -1,16 +1,14 @@
 // Calls of the libraries with what the workbench never gives them, or whose answer it does not show. It prints a line for each: the function, what it was given, and
-// what it answered. Every line, or part of one, is a template that is filled in and written at once.
+// what it answered.
 #![tactic(auto)]
 
 ghost use Rattle.std.specs.Prelude.{◌≤◌, ◌<◌, length};
 
 use answers::Signed;
-use curve::Value;
-use decimals::Number;
-use drive::{Answer, Driven};
-use position::Place;
-use rules::Refusal;
-use words::Word;
+use decimals::NotNumber;
+use drive::Answer;
+use rules::Refused;
+use table::Table;
 
 // A table with slopes in 1/2^8 of a value per count.
 const S: u32 = 8;
@@ -37,347 +35,259 @@ const UNLIKE_SLOPES: [i32; 3] = [10, 0, 0];
 // Fewer slopes than points.
 const FEWER: [i32; 2] = [10, 0];
 
+// 2^62.
+const HALF: i64 = 1 << 62;
+
 fn main(rt: HostRuntime) {
     quotients(&rt);
     nearests(&rt);
-    texts(&rt, b"abc", b"ab c");
-    asked(&rt, S, &KNOTS, &VALUES, &SLOPES);
-    at(&rt, S, &KNOTS, &BEND, &SLOPES, 3);
-    units(&rt, &UNLIKE_KNOTS, &UNLIKE_VALUES, &UNLIKE_SLOPES, &FEWER);
+    texts(&rt);
+    tables(&rt);
+    units(&rt);
     pieces(&rt);
 }
 
 // ---- integers
 
 fn quotients(rt: &(impl Print + Eprint)) {
-    quotient(rt, 7, 1);
-    quotient(rt, 7, 0);
-    quotient(rt, -7, 0);
-    quotient(rt, 7, -2);
-    quotient(rt, -1, 4);
-    quotient(rt, -9, 4);
-    quotient(rt, -9223372036854775808, 1);
-    quotient(rt, -9223372036854775808, -1);
+    let pairs = [
+        (7, 1),
+        (7, 0),
+        (-7, 0),
+        (7, -2),
+        (-1, 4),
+        (-9, 4),
+        (i64::MIN, 1),
+        (i64::MIN, -1),
+    ];
+    for (n, d) in pairs {
+        let q = integers::floor_div(n, d);
+        write(rt, b"floor_div # # #\n", b"", &[n, d, q].map(Signed::from));
+    }
 }
 
-fn quotient(rt: &(impl Print + Eprint), n: i64, d: i64) {
-    wholes(rt, b"floor_div # # #\n", n, d, integers::floor_div(n, d));
-}
-
-// Numbers around 0, 2^62 and the ends of 64 bits.
+// Numbers around 0, 2^62 and the ends of 64 bits, by odd and even numbers, and by some that are not positive.
 fn nearests(rt: &(impl Print + Eprint)) {
-    by_each(rt, -3);
-    by_each(rt, -2);
-    by_each(rt, -1);
-    by_each(rt, 0);
-    by_each(rt, 1);
-    by_each(rt, 2);
-    by_each(rt, 3);
-    by_each(rt, 7);
-    by_each(rt, -4611686018427387906);
-    by_each(rt, -4611686018427387905);
-    by_each(rt, -4611686018427387904);
-    by_each(rt, -4611686018427387903);
-    by_each(rt, 4611686018427387902);
-    by_each(rt, 4611686018427387903);
-    by_each(rt, 4611686018427387904);
-    by_each(rt, 4611686018427387905);
-    by_each(rt, -9223372036854775808);
-    by_each(rt, -9223372036854775807);
-    by_each(rt, 9223372036854775806);
-    by_each(rt, 9223372036854775807);
-}
-
-// By odd and even numbers, and by some that are not positive.
-fn by_each(rt: &(impl Print + Eprint), n: i64) {
-    nearest(rt, n, 1);
-    nearest(rt, n, 2);
-    nearest(rt, n, 3);
-    nearest(rt, n, 4);
-    nearest(rt, n, 5);
-    nearest(rt, n, 9223372036854775806);
-    nearest(rt, n, 9223372036854775807);
-    nearest(rt, n, 0);
-    nearest(rt, n, -1);
-    nearest(rt, n, -2);
-    nearest(rt, n, -9223372036854775808);
-}
-
-fn nearest(rt: &(impl Print + Eprint), n: i64, d: i64) {
-    wholes(
-        rt,
-        b"nearest_div # # #\n",
-        n,
-        d,
-        integers::nearest_div(n, d),
-    );
+    let numbers = [
+        -3,
+        -2,
+        -1,
+        0,
+        1,
+        2,
+        3,
+        7,
+        -HALF - 2,
+        -HALF - 1,
+        -HALF,
+        -HALF + 1,
+        HALF - 2,
+        HALF - 1,
+        HALF,
+        HALF + 1,
+        i64::MIN,
+        i64::MIN + 1,
+        i64::MAX - 1,
+        i64::MAX,
+    ];
+    let divisors = [1, 2, 3, 4, 5, i64::MAX - 1, i64::MAX, 0, -1, -2, i64::MIN];
+    for n in numbers {
+        for d in divisors {
+            let q = integers::nearest_div(n, d);
+            write(
+                rt,
+                b"nearest_div # # #\n",
+                b"",
+                &[n, d, q].map(Signed::from),
+            );
+        }
+    }
 }
 
 // ---- words and decimals
 
-fn texts(rt: &(impl Print + Eprint), word: &[u8], line: &[u8]) {
-    finds(rt, word);
+fn texts(rt: &(impl Print + Eprint)) {
+    finds(rt, b"abc");
     next_words(rt);
-    counts(rt, line);
-    parts(rt, word);
+    counts(rt, b"ab c");
+    parts(rt, b"abc");
     reads(rt);
-    buffers(rt, word);
+    appends(rt, b"abc");
 }
 
 fn finds(rt: &(impl Print + Eprint), bytes: &[u8]) {
-    found(rt, bytes, 0, 99);
-    found(rt, bytes, 0, 120);
-    found(rt, bytes, 5, 97);
+    for (from, byte) in [(0, b'c'), (0, b'x'), (5, b'a')] {
+        let found = words::find(bytes, from, byte);
+        write(
+            rt,
+            b"find '$' # # #\n",
+            bytes,
+            &[natural(from), natural(byte as usize), natural(found)],
+        );
+    }
 }
 
 fn next_words(rt: &(impl Print + Eprint)) {
-    word(rt, b"ab", 0);
-    word(rt, b" ab c", 2);
-    word(rt, b"ab ", 2);
+    for (line, from) in [
+        (b"ab".as_slice(), 0),
+        (b" ab c".as_slice(), 2),
+        (b"ab ".as_slice(), 2),
+    ] {
+        match words::next_word(line, from) {
+            Some(word) => write(
+                rt,
+                b"next_word '$' # # #\n",
+                line,
+                &[natural(from), natural(word.start), natural(word.end)],
+            ),
+            None => write(rt, b"next_word '$' # nothing\n", line, &[natural(from)]),
+        }
+    }
 }
 
 fn counts(rt: &(impl Print + Eprint), line: &[u8]) {
-    counted(rt, line, 0);
-    counted(rt, line, 1);
-    counted(rt, line, 9);
+    for from in [0, 1, 9] {
+        write(
+            rt,
+            b"count '$' # #\n",
+            line,
+            &[natural(from), natural(words::count(line, from))],
+        );
+    }
 }
 
 fn parts(rt: &(impl Print + Eprint), line: &[u8]) {
-    part(rt, line, 1, 2);
-    part(rt, line, 1, 4);
-    part(rt, line, 1, 9);
-    part(rt, line, 2, 1);
-    part(rt, line, 5, 7);
+    for (start, end) in [(1, 2), (1, 4), (1, 9), (2, 1), (5, 7)] {
+        write(rt, b"part '$' # # ", line, &[natural(start), natural(end)]);
+        write(rt, b"$\n", words::part(line, start, end), &[]);
+    }
 }
 
 fn reads(rt: &(impl Print + Eprint)) {
-    read(rt, b"");
-    read(rt, b"-");
-}
-
-// A buffer of four bytes, of which so many are held, and more behind them.
-fn buffers(rt: &(impl Print + Eprint), more: &[u8]) {
-    appended(rt, 0, more);
-    appended(rt, 1, more);
-    appended(rt, 2, more);
-    appended(rt, 3, more);
-    appended(rt, 4, more);
-    appended(rt, 6, more);
-}
-
-fn found(rt: &(impl Print + Eprint), bytes: &[u8], from: usize, byte: u8) {
-    with_text(
-        rt,
-        b"find '$' # # #\n",
-        bytes,
-        from,
-        byte as usize,
-        words::find(bytes, from, byte),
-    );
-}
-
-fn word(rt: &(impl Print + Eprint), line: &[u8], from: usize) {
-    match words::next_word(line, from) {
-        Word::At { start, end } => with_text(rt, b"next_word '$' # # #\n", line, from, start, end),
-        Word::Nothing => with_text(rt, b"next_word '$' # nothing\n", line, from, 0, 0),
+    for text in [b"".as_slice(), b"-".as_slice()] {
+        match decimals::whole(text) {
+            Ok(n) => write(rt, b"whole '$' #\n", text, &[Signed::from(n)]),
+            Err(NotNumber::NotDecimal) => write(rt, b"whole '$' no number\n", text, &[]),
+            Err(NotNumber::TooLarge) => write(rt, b"whole '$' too large\n", text, &[]),
+        }
     }
 }
 
-fn counted(rt: &(impl Print + Eprint), line: &[u8], from: usize) {
-    with_text(
-        rt,
-        b"count '$' # #\n",
-        line,
-        from,
-        words::count(line, from),
-        0,
-    );
-}
-
-fn part(rt: &(impl Print + Eprint), line: &[u8], start: usize, end: usize) {
-    with_text(rt, b"part '$' # # ", line, start, end, 0);
-    with_text(rt, b"$\n", words::part(line, start, end), 0, 0, 0);
-}
-
-fn read(rt: &(impl Print + Eprint), digits: &[u8]) {
-    with_text(rt, b"whole '$' ", digits, 0, 0, 0);
-    said(rt, decimals::whole(digits));
-}
-
-fn said(rt: &(impl Print + Eprint), number: Number) {
-    match number {
-        Number::Is(n) => wholes(rt, b"#\n", n, 0, 0),
-        Number::NotDecimal => wholes(rt, b"no number\n", 0, 0, 0),
-        Number::TooLarge => wholes(rt, b"too large\n", 0, 0, 0),
+// To a buffer of four bytes, of which so many are held.
+fn appends(rt: &(impl Print + Eprint), more: &[u8]) {
+    for held in [0, 1, 2, 3, 4, 6] {
+        let mut four = [b'.'; 4];
+        let n = words::append(&mut four, held, more);
+        write(rt, b"append '$' # #\n", &four, &[natural(held), natural(n)]);
     }
-}
-
-fn appended(rt: &(impl Print + Eprint), held: usize, more: &[u8]) {
-    let mut four = [46u8; 4];
-    let n = words::append(&mut four, held, more);
-    with_text(rt, b"append '$' # #\n", &four, held, n, 0);
 }
 
 // ---- tables, each line with the slope unit's number first, at positions in them and outside
 
+fn tables(rt: &(impl Print + Eprint)) {
+    let table = Table {
+        s: S,
+        knots: &KNOTS,
+        values: &VALUES,
+        slopes: &SLOPES,
+    };
+    asked(rt, table);
+    let bent = Table {
+        s: S,
+        knots: &KNOTS,
+        values: &BEND,
+        slopes: &SLOPES,
+    };
+    at(rt, bent, 3);
+}
+
 // In two units that are good and in two that are refused, which is asked before the lengths.
-fn units(rt: &(impl Print + Eprint), knots: &[i32], values: &[i32], slopes: &[i32], fewer: &[i32]) {
-    in_unit(rt, 0, knots, values, slopes, fewer);
-    in_unit(rt, 4, knots, values, slopes, fewer);
-    in_unit(rt, 9, knots, values, slopes, fewer);
-    in_unit(rt, 4294967295, knots, values, slopes, fewer);
-}
-
-fn in_unit(
-    rt: &(impl Print + Eprint),
-    s: u32,
-    knots: &[i32],
-    values: &[i32],
-    slopes: &[i32],
-    fewer: &[i32],
-) {
-    asked(rt, s, knots, values, slopes);
-    asked(rt, s, knots, values, fewer);
-}
-
-fn asked(rt: &(impl Print + Eprint), s: u32, knots: &[i32], values: &[i32], slopes: &[i32]) {
-    given(
-        rt,
-        b"points # # #\n",
-        s,
-        table::points(s, knots, values, slopes),
-    );
-    given(
-        rt,
-        b"check # # #\n",
-        s,
-        table::check(s, knots, values, slopes),
-    );
-    at_each(rt, s, knots, values, slopes, &POSITIONS);
-}
-
-fn given(rt: &(impl Print + Eprint), template: &[u8], s: u32, refusal: Refusal) {
-    naturals(
-        rt,
-        template,
-        s as usize,
-        refusal.number as usize,
-        refusal.place,
-    );
-}
-
-// What is answered at each of these positions.
-fn at_each(
-    rt: &(impl Print + Eprint),
-    s: u32,
-    knots: &[i32],
-    values: &[i32],
-    slopes: &[i32],
-    positions: &[i32],
-) {
-    let mut i = 0;
-    while i < positions.len() {
-        at(rt, s, knots, values, slopes, positions[i]);
-        i += 1;
+fn units(rt: &(impl Print + Eprint)) {
+    for s in [0, 4, 9, u32::MAX] {
+        for slopes in [UNLIKE_SLOPES.as_slice(), FEWER.as_slice()] {
+            let table = Table {
+                s,
+                knots: &UNLIKE_KNOTS,
+                values: &UNLIKE_VALUES,
+                slopes,
+            };
+            asked(rt, table);
+        }
     }
 }
 
-// The refusal's number and place stand behind the position, and then what is answered.
-fn at(
-    rt: &(impl Print + Eprint),
-    s: u32,
-    knots: &[i32],
-    values: &[i32],
-    slopes: &[i32],
-    position: i32,
-) {
-    placed(rt, b"locate # ", s, position);
-    located(rt, position::locate(s, knots, values, slopes, position));
-    placed(rt, b"evaluate # ", s, position);
-    valued(rt, curve::evaluate(s, knots, values, slopes, position));
-    placed(rt, b"float_answer # ", s, position);
-    driven(rt, drive::float_answer(s, knots, values, slopes, position));
-}
-
-fn placed(rt: &(impl Print + Eprint), template: &[u8], s: u32, position: i32) {
-    naturals(rt, template, s as usize, 0, 0);
-    whole32(rt, b"# ", position);
-}
-
-fn located(rt: &(impl Print + Eprint), place: Place) {
-    naturals(
-        rt,
-        b"# # #\n",
-        place.refusal.number as usize,
-        place.refusal.place,
-        place.piece,
-    );
-}
-
-fn valued(rt: &(impl Print + Eprint), value: Value) {
-    naturals(
-        rt,
-        b"# # ",
-        value.refusal.number as usize,
-        value.refusal.place,
-        0,
-    );
-    whole32(rt, b"#\n", value.value);
-}
-
-fn driven(rt: &(impl Print + Eprint), driven: Driven) {
-    let answer = driven.answer;
-    let told = answers::entry(b"move\ndwell\ndwell at 0\ndwell at -0", kind(answer));
-    with_text(
-        rt,
-        b"# # $\n",
-        told,
-        driven.refusal.number as usize,
-        driven.refusal.place,
-        0,
-    );
-}
-
-fn kind(answer: Answer) -> usize {
-    match answer {
-        Answer::Dwell(level) => level_kind(level),
-        Answer::Move(_) => 0,
+fn asked(rt: &(impl Print + Eprint), table: Table<'_>) {
+    done(rt, b"points # # #\n", table.s, table::points(table));
+    done(rt, b"check # # #\n", table.s, table::check(table));
+    for position in POSITIONS {
+        at(rt, table, position);
     }
+}
+
+fn done(rt: &(impl Print + Eprint), template: &[u8], s: u32, done: Result<(), Refused>) {
+    let (cause, place) = refusal(done.err());
+    write(rt, template, b"", &[natural(s as usize), cause, place]);
+}
+
+// The refusal's number and place stand behind the position, and then what is answered: piece 0, value 0 and a dwell at 0 where it is refused.
+fn at(rt: &(impl Print + Eprint), table: Table<'_>, position: i32) {
+    let s = natural(table.s as usize);
+    let x = Signed::from(position);
+
+    let piece = position::locate(table, position);
+    let (cause, place) = refusal(piece.err());
+    write(
+        rt,
+        b"locate # # # # #\n",
+        b"",
+        &[s, x, cause, place, natural(piece.unwrap_or(0))],
+    );
+
+    let value = curve::evaluate(table, position);
+    let (cause, place) = refusal(value.err());
+    write(
+        rt,
+        b"evaluate # # # # #\n",
+        b"",
+        &[s, x, cause, place, Signed::from(value.unwrap_or(0))],
+    );
+
+    let answer = drive::float_answer(table, position);
+    let (cause, place) = refusal(answer.err());
+    write(
+        rt,
+        b"float_answer # # # # $\n",
+        kind(answer.unwrap_or(Answer::Dwell(0.0))),
+        &[s, x, cause, place],
+    );
 }
 
 // 0 has its sign: −0 is no less than 0, but 1 over it is.
-fn level_kind(level: f64) -> usize {
-    if level != 0.0 {
-        return 1;
+fn kind(answer: Answer) -> &'static [u8] {
+    match answer {
+        Answer::Move(_) => b"move",
+        Answer::Dwell(level) => {
+            if level != 0.0 {
+                b"dwell"
+            } else if 1.0 / level < 0.0 {
+                b"dwell at -0"
+            } else {
+                b"dwell at 0"
+            }
+        }
     }
-    if 1.0 / level < 0.0 {
-        return 3;
-    }
-    2
 }
 
 // ---- every position of level tables of several lengths. Their widths are 1, 2 and 3 in turn, so that each is a knot, or beside one, or outside
 
 fn pieces(rt: &(impl Print + Eprint)) {
     let mut knots = [0i32; 1024];
-    spread(&mut knots);
-    let level = [0i32; 1024];
-    pieces_of(rt, &knots, &level, 2);
-    pieces_of(rt, &knots, &level, 3);
-    pieces_of(rt, &knots, &level, 4);
-    pieces_of(rt, &knots, &level, 5);
-    pieces_of(rt, &knots, &level, 31);
-    pieces_of(rt, &knots, &level, 32);
-    pieces_of(rt, &knots, &level, 33);
-    pieces_of(rt, &knots, &level, 1023);
-    pieces_of(rt, &knots, &level, 1024);
-}
-
-fn spread(knots: &mut [i32; 1024]) {
-    let mut i = 0;
-    while i < 1024 {
+    for i in 0..1024 {
         knots[i] = knot(i);
-        i += 1;
+    }
+    let level = [0i32; 1024];
+    for points in [2, 3, 4, 5, 31, 32, 33, 1023, 1024] {
+        pieces_of(rt, &knots[..points], &level[..points]);
     }
 }
 
@@ -389,103 +299,51 @@ fn knot(i: usize) -> i32
     (1 + i / 3 * 6 + turn + turn / 2) as i32
 }
 
-// What is answered in the table of the first so many points.
-fn pieces_of(rt: &(impl Print + Eprint), knots: &[i32; 1024], level: &[i32; 1024], points: usize)
-    requires { points ≤ 1024 }
+// What is answered in the table of these knots at each position.
+fn pieces_of(rt: &(impl Print + Eprint), knots: &[i32], level: &[i32])
+    requires { length knots.now ≤ 1024 }
 {
-    piece_at_each(rt, front(knots, points), front(level, points), points);
-}
-
-// The first n numbers of a list, which has as many.
-fn front(list: &[i32], n: usize) -> &[i32]
-    requires { n ≤ length list.now }
-{
-    &list[..n]
-}
-
-fn piece_at_each(rt: &(impl Print + Eprint), knots: &[i32], level: &[i32], points: usize)
-    requires { points ≤ 1024 }
-{
-    let mut position = 0;
-    while position <= 2 * points {
-        piece_at(rt, knots, level, points, position as i32);
-        position += 1;
+    let points = natural(knots.len());
+    let table = Table {
+        s: S,
+        knots,
+        values: level,
+        slopes: level,
+    };
+    for position in 0..=2 * knots.len() as i32 {
+        let piece = position::locate(table, position);
+        let (cause, place) = refusal(piece.err());
+        let piece = natural(piece.unwrap_or(0));
+        write(
+            rt,
+            b"locate # of # points # # #\n",
+            b"",
+            &[Signed::from(position), points, cause, place, piece],
+        );
     }
 }
 
-fn piece_at(
-    rt: &(impl Print + Eprint),
-    knots: &[i32],
-    level: &[i32],
-    points: usize,
-    position: i32,
-) {
-    whole32(rt, b"locate # ", position);
-    naturals(rt, b"of # points ", points, 0, 0);
-    located(rt, position::locate(S, knots, level, level, position));
+// ---- what is written
+
+// The number of a refusal's cause and its place, and 0 at place 0 for none.
+fn refusal(refused: Option<Refused>) -> (Signed, Signed) {
+    match refused {
+        Some(refused) => (
+            natural(refused.cause.number() as usize),
+            natural(refused.place),
+        ),
+        None => (natural(0), natural(0)),
+    }
 }
 
-// ---- what is written. A template that has no place for a text is handed on as the text too.
-
-fn whole32(rt: &(impl Print + Eprint), template: &[u8], n: i32) {
-    let n = answers::whole32(n);
-    write(rt, template, template, n, n, n);
+fn natural(n: usize) -> Signed {
+    Signed::from(n as u64)
 }
 
-fn wholes(rt: &(impl Print + Eprint), template: &[u8], first: i64, second: i64, third: i64) {
-    write(
-        rt,
-        template,
-        template,
-        answers::whole(first),
-        answers::whole(second),
-        answers::whole(third),
-    );
-}
-
-fn naturals(
-    rt: &(impl Print + Eprint),
-    template: &[u8],
-    first: usize,
-    second: usize,
-    third: usize,
-) {
-    with_text(rt, template, template, first, second, third);
-}
-
-fn with_text(
-    rt: &(impl Print + Eprint),
-    template: &[u8],
-    text: &[u8],
-    first: usize,
-    second: usize,
-    third: usize,
-) {
-    write(
-        rt,
-        template,
-        text,
-        answers::natural(first as u64),
-        answers::natural(second as u64),
-        answers::natural(third as u64),
-    );
-}
-
-fn write(
-    rt: &(impl Print + Eprint),
-    template: &[u8],
-    text: &[u8],
-    first: Signed,
-    second: Signed,
-    third: Signed,
-) {
+fn write(rt: &(impl Print + Eprint), template: &[u8], text: &[u8], numbers: &[Signed]) {
     let mut space = [0u8; 256];
-    let n = answers::fill(&mut space, 0, template, text, first, second, third);
-    written(rt, words::part(&space, 0, n));
-}
-
-fn written(rt: &(impl Print + Eprint), bytes: &[u8]) {
-    if let Err(error) = rt.write_all(bytes) {
+    let n = answers::fill(&mut space, 0, template, text, numbers);
+    if let Err(error) = rt.write_all(words::part(&space, 0, n)) {
         let _ = eprintln!(rt; "calls: standard output: {error}");
     }
 }

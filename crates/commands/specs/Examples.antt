@@ -1,6 +1,6 @@
 -- Worked examples of the definition, each by computing it: lines with what they ask for. Then lines that are too large to be written out.
 use Prim.Native.Nat.{ℕ, zero, suc, ◌*◌, ◌≤◌, ◌<◌}
-use Rattle.std.specs.Prelude.{◌≡◌, false, pos, negsuc, replicate}
+use Rattle.std.specs.Prelude.{◌≡◌, false, pos, negsuc, replicate, Ok, Err}
 use Rattle.std.proofs.Math.Path.{refl}
 use Rattle.std.proofs.Common.{ap, ◌∙◌, arith}
 use mathlib.Core.List.{List, [], ◌∷◌}
@@ -11,9 +11,8 @@ use Rattle.words.specs.Words.{is_separator, words_after, words_of}
 use Rattle.decimals.specs.Decimal.{are_digits, natural}
 use Rattle.commands.specs.declared.List.TheVariants.{Knots, Values, Slopes}
 use Rattle.commands.specs.declared.Fault.TheVariants.{TooLong, NoCommand, TooFew, TooMany, NoList, NotDecimal, Beyond32, Beyond64, BeyondUnsigned}
-use Rattle.commands.specs.declared.Command.TheVariants.{Nothing, Wrong, Set, Show, Piece, Build, Check, At, Drive, Change, SetUnit, ShowUnit}
-use Rattle.commands.specs.declared.Finding.TheVariants.{Clear}
-use Rattle.commands.specs.Commands.{counted, or_else, is_number, first_fault, numbers, wide, narrow, is_list, unless, same, chosen, by_words, command_of}
+use Rattle.commands.specs.declared.Command.TheVariants.{Nothing, Set, Show, Piece, Build, Check, At, Drive, Change, SetUnit, ShowUnit}
+use Rattle.commands.specs.Commands.{first_fault, is_list, unless, asked, by_words, command_of}
 
 -- no byte
 abbrev pub empty : List ℕ
@@ -196,54 +195,54 @@ abbrev pub capital_unit : List ℕ
 capital_unit = 85 ∷ 110 ∷ 105 ∷ 116 ∷ 32 ∷ 49 ∷ []
 
 pub record Worked : Type 0 where
-  pub empty_asks : command_of empty ≡ Nothing
-  pub comment_asks : command_of comment ≡ Nothing
-  pub late_comment_asks : command_of late_comment ≡ Wrong NoCommand
-  pub comment_as_a_number_asks : command_of comment_as_a_number ≡ Wrong TooMany
-  pub unknown_asks : command_of unknown ≡ Wrong NoCommand
-  pub capital_asks : command_of capital ≡ Wrong NoCommand
-  pub unknown_alone_asks : command_of unknown_alone ≡ Wrong NoCommand
-  pub at_alone_asks : command_of at_alone ≡ Wrong TooFew
-  pub at_one_asks : command_of at_one ≡ At (pos 1)
-  pub at_two_asks : command_of at_two ≡ Wrong TooMany
-  pub at_letter_asks : command_of at_letter ≡ Wrong (NotDecimal 1)
-  pub at_letter_more_asks : command_of at_letter_more ≡ Wrong TooMany
-  pub at_large_asks : command_of at_large ≡ Wrong (Beyond32 1)
-  pub drive_least_asks : command_of drive_least ≡ Drive (negsuc 2147483647)
-  pub build_asks : command_of build ≡ Build
-  pub check_asks : command_of check ≡ Check
-  pub build_one_asks : command_of build_one ≡ Wrong TooMany
-  pub knots_asks : command_of knots ≡ Set Knots
-  pub values_asks : command_of values ≡ Set Values
-  pub slopes_letter_asks : command_of slopes_letter ≡ Wrong (NotDecimal 2)
-  pub slopes_large_asks : command_of slopes_large ≡ Wrong (Beyond32 2)
-  pub show_asks : command_of show ≡ Show Slopes
-  pub show_alone_asks : command_of show_alone ≡ Wrong TooFew
-  pub show_two_asks : command_of show_two ≡ Wrong TooMany
-  pub show_curve_asks : command_of show_curve ≡ Wrong NoList
-  pub piece_asks : command_of piece ≡ Piece (record { h = pos 3; z = negsuc 9; m = negsuc 852; n = pos 5 })
-  pub piece_letter_asks : command_of piece_letter ≡ Wrong TooFew
-  pub piece_faults_asks : command_of piece_faults ≡ Wrong (NotDecimal 2)
-  pub piece_large_asks : command_of piece_large ≡ Wrong (Beyond64 2)
-  pub piece_slopes_asks : command_of piece_slopes ≡ Wrong (Beyond32 4)
-  pub change_asks : command_of change ≡ Change (record { number = negsuc 0; knot = pos 2; value = pos 3 })
-  pub change_large_asks : command_of change_large ≡ Wrong (Beyond32 2)
-  pub show_unit_asks : command_of show_unit ≡ ShowUnit
-  pub show_units_asks : command_of show_units ≡ Wrong NoList
-  pub unit_most_asks : command_of unit_most ≡ SetUnit 4294967295
-  pub unit_minus_0_asks : command_of unit_minus_0 ≡ SetUnit 0
-  pub unit_nine_asks : command_of unit_nine ≡ SetUnit 9
-  pub unit_large_asks : command_of unit_large ≡ Wrong (BeyondUnsigned 1)
-  pub unit_huge_asks : command_of unit_huge ≡ Wrong (BeyondUnsigned 1)
-  pub unit_negative_asks : command_of unit_negative ≡ Wrong (BeyondUnsigned 1)
-  pub unit_letter_asks : command_of unit_letter ≡ Wrong (NotDecimal 1)
-  pub unit_alone_asks : command_of unit_alone ≡ Wrong TooFew
-  pub unit_two_asks : command_of unit_two ≡ Wrong TooMany
-  pub units_asks : command_of units ≡ Wrong NoCommand
-  pub capital_unit_asks : command_of capital_unit ≡ Wrong NoCommand
+  pub empty_asks : command_of empty ≡ Ok Nothing
+  pub comment_asks : command_of comment ≡ Ok Nothing
+  pub late_comment_asks : command_of late_comment ≡ Err NoCommand
+  pub comment_as_a_number_asks : command_of comment_as_a_number ≡ Err TooMany
+  pub unknown_asks : command_of unknown ≡ Err NoCommand
+  pub capital_asks : command_of capital ≡ Err NoCommand
+  pub unknown_alone_asks : command_of unknown_alone ≡ Err NoCommand
+  pub at_alone_asks : command_of at_alone ≡ Err TooFew
+  pub at_one_asks : command_of at_one ≡ Ok (At (pos 1))
+  pub at_two_asks : command_of at_two ≡ Err TooMany
+  pub at_letter_asks : command_of at_letter ≡ Err (NotDecimal 1)
+  pub at_letter_more_asks : command_of at_letter_more ≡ Err TooMany
+  pub at_large_asks : command_of at_large ≡ Err (Beyond32 1)
+  pub drive_least_asks : command_of drive_least ≡ Ok (Drive (negsuc 2147483647))
+  pub build_asks : command_of build ≡ Ok Build
+  pub check_asks : command_of check ≡ Ok Check
+  pub build_one_asks : command_of build_one ≡ Err TooMany
+  pub knots_asks : command_of knots ≡ Ok (Set Knots)
+  pub values_asks : command_of values ≡ Ok (Set Values)
+  pub slopes_letter_asks : command_of slopes_letter ≡ Err (NotDecimal 2)
+  pub slopes_large_asks : command_of slopes_large ≡ Err (Beyond32 2)
+  pub show_asks : command_of show ≡ Ok (Show Slopes)
+  pub show_alone_asks : command_of show_alone ≡ Err TooFew
+  pub show_two_asks : command_of show_two ≡ Err TooMany
+  pub show_curve_asks : command_of show_curve ≡ Err NoList
+  pub piece_asks : command_of piece ≡ Ok (Piece (record { h = pos 3; z = negsuc 9; m = negsuc 852; n = pos 5 }))
+  pub piece_letter_asks : command_of piece_letter ≡ Err TooFew
+  pub piece_faults_asks : command_of piece_faults ≡ Err (NotDecimal 2)
+  pub piece_large_asks : command_of piece_large ≡ Err (Beyond64 2)
+  pub piece_slopes_asks : command_of piece_slopes ≡ Err (Beyond32 4)
+  pub change_asks : command_of change ≡ Ok (Change (record { number = negsuc 0; knot = pos 2; value = pos 3 }))
+  pub change_large_asks : command_of change_large ≡ Err (Beyond32 2)
+  pub show_unit_asks : command_of show_unit ≡ Ok ShowUnit
+  pub show_units_asks : command_of show_units ≡ Err NoList
+  pub unit_most_asks : command_of unit_most ≡ Ok (SetUnit 4294967295)
+  pub unit_minus_0_asks : command_of unit_minus_0 ≡ Ok (SetUnit 0)
+  pub unit_nine_asks : command_of unit_nine ≡ Ok (SetUnit 9)
+  pub unit_large_asks : command_of unit_large ≡ Err (BeyondUnsigned 1)
+  pub unit_huge_asks : command_of unit_huge ≡ Err (BeyondUnsigned 1)
+  pub unit_negative_asks : command_of unit_negative ≡ Err (BeyondUnsigned 1)
+  pub unit_letter_asks : command_of unit_letter ≡ Err (NotDecimal 1)
+  pub unit_alone_asks : command_of unit_alone ≡ Err TooFew
+  pub unit_two_asks : command_of unit_two ≡ Err TooMany
+  pub units_asks : command_of units ≡ Err NoCommand
+  pub capital_unit_asks : command_of capital_unit ≡ Err NoCommand
 
 pub worked : Worked
-unfolding words_after are_digits natural counted or_else is_number first_fault numbers wide narrow is_list unless same chosen
+unfolding words_after are_digits natural asked
 worked =
     record {
       empty_asks = refl;
@@ -295,7 +294,7 @@ worked =
 
 -- ---- lines that are too large to be written out
 
-pub too_long : (line : List ℕ) → 65536 < length line → command_of line ≡ Wrong TooLong
+pub too_long : (line : List ℕ) → 65536 < length line → command_of line ≡ Err TooLong
 too_long line h = rw (lt-ltb 65536 (length line) h)
 
 -- spaces alone
@@ -304,7 +303,7 @@ unfolding words_after
 no_words zero = refl
 no_words (suc n) = no_words n
 
-pub spaces : (n : ℕ) → n < 65536 → command_of (32 ∷ replicate n 32) ≡ Nothing
+pub spaces : (n : ℕ) → n < 65536 → command_of (32 ∷ replicate n 32) ≡ Ok Nothing
 unfolding words_after
 spaces n h =
     let line : List ℕ = 32 ∷ replicate n 32 in
@@ -334,24 +333,22 @@ module _ (b : ℕ) (plain : is_separator b ≡ false) where
   unfolding words_after
   words_of_lem n = its_words 107 (110 ∷ 111 ∷ 116 ∷ 115 ∷ []) n
 
-  as_set : (n : ℕ) → n ≤ 30000 → command_of (knots_and b n) ≡ unless (is_list (replicate n (b ∷ []))) (Set Knots)
-  unfolding chosen same
+  as_set : (n : ℕ) → n ≤ 30000 → command_of (knots_and b n) ≡ unless (is_list (replicate n (b ∷ []))) (Ok (Set Knots))
+  unfolding asked
   as_set n h =
       let line : List ℕ = knots_and b n in
       let size : length line ≤ 65536 = omega (arith, its_length n) in
       rw (le-ltb 65536 (length line) size) (ap by_words (words_of_lem n))
 
   -- more words than a list has room for, whatever they are
-  pub too_many : (n : ℕ) → n ≤ 30000 → 2048 < n → command_of (knots_and b n) ≡ Wrong TooMany
-  unfolding is_list unless
+  pub too_many : (n : ℕ) → n ≤ 30000 → 2048 < n → command_of (knots_and b n) ≡ Err TooMany
   too_many n h many = as_set n h ∙ rw (length-replicate, lt-ltb 2048 n many)
 
-zeros : (k n : ℕ) → first_fault 0 (suc k) (replicate n (48 ∷ [])) ≡ Clear
-unfolding or_else is_number first_fault are_digits natural
+zeros : (k n : ℕ) → first_fault 0 (suc k) (replicate n (48 ∷ [])) ≡ Ok tt
+unfolding are_digits natural
 zeros k zero = refl
 zeros k (suc n) = rw (lt-leb (suc k) 0 (omega arith)) (zeros (suc k) n)
 
 -- as many as it has room for
-pub full_list : (n : ℕ) → n ≤ 2048 → command_of (knots_and 48 n) ≡ Set Knots
-unfolding is_list unless
+pub full_list : (n : ℕ) → n ≤ 2048 → command_of (knots_and 48 n) ≡ Ok (Set Knots)
 full_list n few = as_set 48 refl n (omega arith) ∙ rw (length-replicate, le-ltb 2048 n few, zeros 0 n)

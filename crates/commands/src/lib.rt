@@ -1,15 +1,13 @@
 // What a line of the workbench asks for: its command with its numbers, or what is wrong with it. Nothing is done here, and no function asks anything of its caller.
 #![tactic(auto)]
 
-mod findings;
-mod naming;
 mod numbers;
 mod parsing;
 
 pub use parsing::parse;
 
 // The three lists of the workbench.
-#[derive(Clone, Copy)]
+#[derive(Clone, Copy, PartialEq, Eq)]
 pub enum List {
     Knots,
     Values,
@@ -17,7 +15,7 @@ pub enum List {
 }
 
 // The width and the rise of a piece, and the slopes at its ends.
-#[derive(Clone, Copy)]
+#[derive(Clone, Copy, PartialEq, Eq)]
 pub struct Piece {
     pub h: i64,
     pub z: i64,
@@ -26,7 +24,7 @@ pub struct Piece {
 }
 
 // A point by its number, of which a table need not have one, and the knot and the value that it is to have.
-#[derive(Clone, Copy)]
+#[derive(Clone, Copy, PartialEq, Eq)]
 pub struct Point {
     pub number: i64,
     pub knot: i32,
@@ -34,7 +32,7 @@ pub struct Point {
 }
 
 // What is wrong with a line. A number is named by its place among the words after the command, from 1. `BeyondUnsigned`: it is not in 0 to 4294967295.
-#[derive(Clone, Copy)]
+#[derive(Clone, Copy, PartialEq, Eq)]
 pub enum Fault {
     TooLong,
     NoCommand,
@@ -47,11 +45,10 @@ pub enum Fault {
     BeyondUnsigned(usize),
 }
 
-// A line without a command asks for nothing. A line may set the slope unit to any number of 32 bits without a sign: only a table refuses one.
-#[derive(Clone, Copy)]
+// A line without a command asks for nothing, as a comment does, and is no fault. A line may set the slope unit to any number of 32 bits without a sign: only a table refuses one.
+#[derive(Clone, Copy, PartialEq, Eq)]
 pub enum Command {
     Nothing,
-    Wrong(Fault),
     Set(List),
     Show(List),
     Piece(Piece),
@@ -62,11 +59,4 @@ pub enum Command {
     Change(Point),
     SetUnit(u32),
     ShowUnit,
-}
-
-// What is found where the words of a command are looked at.
-#[derive(Clone, Copy)]
-pub(crate) enum Finding {
-    Clear,
-    Faulty(Fault),
 }

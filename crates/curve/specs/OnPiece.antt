@@ -8,7 +8,7 @@ use Rattle.cubic.specs.Value.{risen}
 use Rattle.cubic.specs.Along.{Along, Amid, upwards, downwards, amid, part_within}
 use Rattle.cubic.proofs.InOrder.{risen_from_left, risen_to_right}
 use Rattle.rules.specs.Known.{0<_unit, 0<_width, rise_size}
-use Rattle.position.specs.Spot.{InPiece}
+use Rattle.position.specs.InPiece.{InPiece}
 
 module _ {U h z m n t : ℤ} (o : InPiece U h z m n t) where
   from_left : Along z (pos 0) (risen U h z m n t)

@@ -1,10 +1,9 @@
 -- What a whole decimal number is, as text and as a value. Text is the list of its bytes, of any length.
-use Rattle.std.specs.Prelude.{ℕ, ◌+◌, ◌-◌, ◌*◌, Bool, true, false, cond, ◌&&◌, List, [], ◌∷◌, ℤ, pos, neg_ℤ, ltb, leb, eqb}
+use Rattle.std.specs.Prelude.{ℕ, ◌+◌, ◌-◌, ◌*◌, Bool, true, false, cond, ◌&&◌, List, [], ◌∷◌, ℤ, pos, neg_ℤ, ltb, leb, eqb, Result, Ok, Err}
 use Rattle.std.proofs.Math.Option.{Option, some, none}
 use Rattle.std.specs.Int.Signed.{le_z}
-use Rattle.decimals.specs.declared.reading.Number
-use Rattle.decimals.specs.declared.reading.Number32
-use Rattle.decimals.specs.declared.reading.Magnitude
+use Rattle.decimals.specs.declared.reading.NotNumber.{NotNumber}
+use Rattle.decimals.specs.declared.reading.NotNumber.TheVariants.{NotDecimal, TooLarge}
 
 -- a digit is one of the bytes `0` to `9`
 abbrev pub is_digit : ℕ → Bool
@@ -44,36 +43,36 @@ abbrev pub fits32 : ℤ → Bool
 fits32 z = le_z (neg_ℤ (pos 2147483648)) z && le_z z (pos 2147483647)
 
 -- a value as a number of 64 bits: itself where it fits
-abbrev pub fit64 : ℤ → Number.Number
-fit64 z = cond (fits64 z) (Number.TheVariants.Is z) Number.TheVariants.TooLarge
+abbrev pub fit64 : ℤ → Result ℤ NotNumber
+fit64 z = cond (fits64 z) (Ok z) (Err TooLarge)
 
 -- a value as a number of 32 bits: itself where it fits
-abbrev pub fit32 : ℤ → Number32.Number32
-fit32 z = cond (fits32 z) (Number32.TheVariants.Is z) Number32.TheVariants.TooLarge
+abbrev pub fit32 : ℤ → Result ℤ NotNumber
+fit32 z = cond (fits32 z) (Ok z) (Err TooLarge)
 
 -- a value, or none where the text is not decimal, as a number of 64 bits
-abbrev pub number : Option ℤ → Number.Number
-number none = Number.TheVariants.NotDecimal
+abbrev pub number : Option ℤ → Result ℤ NotNumber
+number none = Err NotDecimal
 number (some z) = fit64 z
 
 -- the same as a number of 32 bits
-abbrev pub number32 : Option ℤ → Number32.Number32
-number32 none = Number32.TheVariants.NotDecimal
+abbrev pub number32 : Option ℤ → Result ℤ NotNumber
+number32 none = Err NotDecimal
 number32 (some z) = fit32 z
 
 -- what text says as a number of 64 bits: its value where it is decimal and the value fits
-abbrev pub number_of : List ℕ → Number.Number
+abbrev pub number_of : List ℕ → Result ℤ NotNumber
 number_of text = number (value_of text)
 
 -- what text says as a number of 32 bits: its value where it is decimal and the value fits
-abbrev pub number32_of : List ℕ → Number32.Number32
+abbrev pub number32_of : List ℕ → Result ℤ NotNumber
 number32_of text = number32 (value_of text)
 
 -- a magnitude that is held against a limit
-abbrev pub bounded : ℕ → ℕ → Magnitude.Magnitude
-bounded most n = cond (leb n most) (Magnitude.TheVariants.Is n) Magnitude.TheVariants.TooLarge
+abbrev pub bounded : ℕ → ℕ → Result ℕ NotNumber
+bounded most n = cond (leb n most) (Ok n) (Err TooLarge)
 
 -- the magnitude that digits say, if they are digits
-abbrev pub magnitude_of : ℕ → Option ℕ → Magnitude.Magnitude
-magnitude_of most none = Magnitude.TheVariants.NotDecimal
+abbrev pub magnitude_of : ℕ → Option ℕ → Result ℕ NotNumber
+magnitude_of most none = Err NotDecimal
 magnitude_of most (some n) = bounded most n

@@ -2,6 +2,5 @@ pub mod Decimal
 pub mod Digits
 pub mod Examples
 pub mod Natural
-pub mod Reading
 pub mod Spelling
 pub mod Text

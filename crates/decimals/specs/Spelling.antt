@@ -4,7 +4,7 @@ use Rattle.std.proofs.Common.{ap, ◌∙◌, arith, lt-ltb, le-ltb, ltb-true, lt
 use Rattle.std.proofs.Math.Option.{some, none}
 use Rattle.std.specs.Int.Signed.{lt_z}
 use Rattle.decimals.specs.Decimal.{is_digit, are_digits, natural, digits_of, signed, value_of}
-use Rattle.decimals.specs.Digits.{first_digit, digit_bounds}
+use Rattle.decimals.specs.Digits.{first_digit}
 use Rattle.words.specs.Runs.{by_test}
 use Rattle.decimals.specs.Text.{spelled, decimal_of, text_of}
 
@@ -96,8 +96,8 @@ digits_back n = let back = read_back n n (omega arith) in some_digits (decimal_o
 no_sign : (xs : List ℕ) (n : ℕ) → are_digits xs ≡ true → digits_of xs ≡ some n → value_of xs ≡ some (pos n)
 no_sign [] n d e = let z : ◌≡◌ {A = ℕ} 0 1 = cc in absurd (omega arith)
 no_sign (b ∷ bs) n d e =
-    let digit = digit_bounds b (first_digit (b ∷ bs) 0 (omega arith) d) in
-    let plain = ne_eqb b 45 (λ (q : b ≡ 45). omega arith) in
+    let digit = first_digit b bs d in
+    let plain = ne_eqb b 45 (λ (q : b ≡ 45). omega (arith, digit.0)) in
     ap (λ (t : Bool). cond t (signed (λ (k : ℕ). neg_ℤ (pos k)) (digits_of bs)) (signed pos (digits_of (b ∷ bs)))) plain ∙ ap (signed pos) e
 
 -- the text of a number, read, is the number

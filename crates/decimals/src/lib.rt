@@ -4,5 +4,5 @@
 mod reading;
 mod writing;
 
-pub use reading::{Number, Number32, whole, whole32};
+pub use reading::{NotNumber, whole, whole32};
 pub use writing::{append_natural, append_whole, append_whole32};

@@ -1,146 +1,67 @@
 // Whole decimal numbers: an optional `-` and one or more digits. Text of any length is read, and nothing wraps: a sum is
 // held against its limit before it is made.
-ghost use Rattle.std.specs.Prelude.{◌≡◌, true, ◌≤◌, drop, pos, neg_ℤ};
-ghost use Rattle.decimals.specs.Decimal.{is_digit, are_digits, natural, bounded, digits_of, magnitude_of, fit32, number_of, number32_of};
+ghost use Rattle.std.specs.Prelude.{◌≡◌, true};
+ghost use Rattle.decimals.specs.Decimal.{are_digits, natural, bounded, digits_of, magnitude_of, number_of, number32_of};
 
-// The largest magnitude of a number that is not negative, and of one that is.
-const MOST: u64 = 9223372036854775807;
-
-const MOST_NEGATIVE: u64 = 9223372036854775808;
-
-// What text says as a number of 64 bits. `TooLarge`: it is a number beyond them, on either side of 0.
-#[derive(Clone, Copy)]
-pub enum Number {
-    Is(i64),
+// Why text says no number.
+#[derive(Clone, Copy, PartialEq, Eq)]
+pub enum NotNumber {
+    // It is something else than an optional `-` and one or more digits.
     NotDecimal,
+    // It is a number, and beyond what the type holds, on either side of 0.
     TooLarge,
 }
 
-// What text says as a number of 32 bits, in the same way.
-#[derive(Clone, Copy)]
-pub enum Number32 {
-    Is(i32),
-    NotDecimal,
-    TooLarge,
-}
-
-// What digits say, held against a limit.
-#[derive(Clone, Copy)]
-enum Magnitude {
-    Is(u64),
-    NotDecimal,
-    TooLarge,
-}
-
-fn is_digit(b: u8) -> bool
-    ensures { result ≡ is_digit b }
+// Whether the bytes are digits alone.
+fn are_digits(text: &[u8]) -> bool
+    ensures { result ≡ are_digits text.now }
 {
-    if b < 48 {
-        return false;
-    }
-    b <= 57
+    text.iter().all(u8::is_ascii_digit)
 }
 
-// Whether digits alone stand from `from` on.
-fn are_digits(text: &[u8], from: usize) -> bool
-    ensures { result ≡ are_digits (drop from text.now) }
-{
-    let mut i = from;
-    while i < text.len() {
-        if !is_digit(text[i]) {
-            return false;
-        }
-        i += 1;
-    }
-    true
-}
-
-// The value of the digits from `from` on, unless it is above `most`.
-fn value(text: &[u8], from: usize, most: u64) -> Magnitude
-    requires text_value { are_digits (drop from text.now) ≡ true }
-    requires le_most { 9 ≤ most }
-    ensures { result ≡ bounded most (natural 0 (drop from text.now)) }
+// The value of the digits, unless 64 bits are too few for it.
+#[tactic(auto, using(crate::specs::Digits::digit_laws))]
+fn value(text: &[u8]) -> Result<u64, NotNumber>
+    requires { are_digits text.now ≡ true }
+    ensures { result ≡ bounded u64.MAX (natural 0 text.now) }
 {
     let mut sum: u64 = 0;
-    let mut i = from;
-    while i < text.len() {
-        let digit = (text[i] - 48) as u64;
-        if (most - digit) / 10 < sum {
-            return Magnitude::TooLarge;
+    for b in text {
+        let digit = u64::from(*b - b'0');
+        // The sum is checked before it is made; the edit `sum_may_wrap` shows what a test of the product lets through.
+        if (u64::MAX - digit) / 10 < sum {
+            return Err(NotNumber::TooLarge);
         }
         sum = sum * 10 + digit;
-        i += 1;
     }
-    Magnitude::Is(sum)
+    Ok(sum)
 }
 
-// The value of the one or more digits from `from` on.
-fn digits(text: &[u8], from: usize, most: u64) -> Magnitude
-    requires { 9 ≤ most }
-    ensures { result ≡ magnitude_of most (digits_of (drop from text.now)) }
+// The value of one or more digits.
+fn digits(text: &[u8]) -> Result<u64, NotNumber>
+    ensures { result ≡ magnitude_of u64.MAX (digits_of text.now) }
 {
-    if text.len() <= from {
-        return Magnitude::NotDecimal;
+    if text.is_empty() || !are_digits(text) {
+        return Err(NotNumber::NotDecimal);
     }
-    if are_digits(text, from) {
-        value(text, from, most)
-    } else {
-        Magnitude::NotDecimal
-    }
-}
-
-// Less than nothing by `n`. The least number has no positive counterpart, so it is reached from -1.
-fn negated(n: u64) -> i64
-    requires { n ≤ 9223372036854775808 }
-    ensures { result ≡ neg_ℤ (pos n) }
-{
-    if n == 0 {
-        return 0;
-    }
-    -1 - ((n - 1) as i64)
+    value(text)
 }
 
 // The number of 64 bits that the whole text says.
-pub fn whole(text: &[u8]) -> Number
+pub fn whole(text: &[u8]) -> Result<i64, NotNumber>
     ensures { result ≡ number_of text.now }
 {
-    if text.len() == 0 {
-        return Number::NotDecimal;
-    }
-    if text[0] == 45 {
-        match digits(text, 1, MOST_NEGATIVE) {
-            Magnitude::Is(n) => Number::Is(negated(n)),
-            Magnitude::NotDecimal => Number::NotDecimal,
-            Magnitude::TooLarge => Number::TooLarge,
-        }
-    } else {
-        match digits(text, 0, MOST) {
-            Magnitude::Is(n) => Number::Is(n as i64),
-            Magnitude::NotDecimal => Number::NotDecimal,
-            Magnitude::TooLarge => Number::TooLarge,
-        }
+    match text {
+        [b'-', after @ ..] => 0i64
+            .checked_sub_unsigned(digits(after)?)
+            .ok_or(NotNumber::TooLarge),
+        _ => i64::try_from(digits(text)?).map_err(|_| NotNumber::TooLarge),
     }
 }
 
 // The number of 32 bits that the whole text says.
-pub fn whole32(text: &[u8]) -> Number32
+pub fn whole32(text: &[u8]) -> Result<i32, NotNumber>
     ensures { result ≡ number32_of text.now }
 {
-    match whole(text) {
-        Number::Is(n) => narrow(n),
-        Number::NotDecimal => Number32::NotDecimal,
-        Number::TooLarge => Number32::TooLarge,
-    }
-}
-
-fn narrow(n: i64) -> Number32
-    ensures { result ≡ fit32 n }
-{
-    if n < -2147483648 {
-        return Number32::TooLarge;
-    }
-    if 2147483647 < n {
-        return Number32::TooLarge;
-    }
-    Number32::Is(n as i32)
+    i32::try_from(whole(text)?).map_err(|_| NotNumber::TooLarge)
 }

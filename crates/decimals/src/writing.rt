@@ -1,5 +1,6 @@
-// Whole numbers as decimal text, put behind what a buffer holds. What `reading` reads, this writes.
-ghost use Rattle.std.specs.Prelude.{◌+◌, ◌<◌, ◌≡◌, nat_abs, [], ◌∷◌};
+// Whole numbers as decimal text, put behind what a buffer holds. What `reading` reads, this writes: the promise is of each byte, also where there is too little room, of which the
+// library's printing says nothing.
+ghost use Rattle.std.specs.Prelude.{◌+◌, ◌<◌, ◌≡◌, [], ◌∷◌};
 ghost use Rattle.words.specs.Lines.{Appended};
 ghost use Rattle.decimals.specs.Text.{decimal_of, text_of};
 
@@ -23,32 +24,22 @@ pub fn append_whole(into: &mut [u8], held: usize, n: i64) -> usize
 {
     if n < 0 {
         let signed = append(into, held, b"-");
-        return append_natural(into, signed, magnitude(n));
+        return append_natural(into, signed, n.unsigned_abs());
     }
-    append_natural(into, held, magnitude(n))
+    append_natural(into, held, n.unsigned_abs())
 }
 
 // The same for a number of 32 bits.
 pub fn append_whole32(into: &mut [u8], held: usize, n: i32) -> usize
     ensures { Appended into.old held (text_of n) into.new result }
 {
-    append_whole(into, held, n as i64)
-}
-
-// How far n is from 0. The least number has no positive counterpart, so its way goes by -1.
-fn magnitude(n: i64) -> u64
-    ensures { result ≡ nat_abs n }
-{
-    if n < 0 {
-        return ((-1 - n) as u64) + 1;
-    }
-    n as u64
+    append_whole(into, held, i64::from(n))
 }
 
 fn append_digit(into: &mut [u8], held: usize, d: u64) -> usize
     requires { d < 10 }
     ensures { Appended into.old held ((48 + d) ∷ []) into.new result }
 {
-    let digit = [48 + d as u8];
+    let digit = [b'0' + d as u8];
     append(into, held, &digit)
 }

@@ -1,6 +1,6 @@
 -- A worked instance of each call's promise, for the Rattle functions and for those that C links: none of the promises is one that nothing meets. `InstancesBelow.antt` has those of
 -- the other functions.
-use Rattle.std.specs.Prelude.{refl, true, false, [], ◌∷◌, pos, negsuc}
+use Rattle.std.specs.Prelude.{refl, true, false, [], ◌∷◌, pos, negsuc, Ok}
 use Rattle.std.proofs.Common.{lit<}
 use Rattle.std.specs.Int.Signed.{le_z_yes, lt_z_yes}
 use Rattle.std.specs.Float.{fin}
@@ -14,7 +14,7 @@ use Rattle.piece.specs.declared.Verdict.TheVariants.{Rising}
 use Rattle.piece.specs.Promise.{rising, ruling, Judged, monotone}
 use Rattle.position.specs.Position.{Belongs, inside, HoldsAt, evaluation_order}
 use Rattle.position.specs.Refused.{as_checked, taken_inside}
-use Rattle.drive.specs.declared.Answer.TheVariants.{Move}
+use Rattle.curve.specs.Curve.{Evaluated}
 use Rattle.drive.specs.Drive.{Telling, move, Driving}
 use Rattle.drive.specs.Figures.{on_the_fall}
 use Rattle.drive.specs.Refused.{as_evaluated, taken_small}
@@ -23,7 +23,7 @@ use Rattle.demands.specs.Demands.{judge, points, build, check, locate, evaluate,
 use Rattle.demands.specs.Ours.{ours, ours_in-C, a_move}
 use Rattle.demands.specs.Refuting.{within}
 use Rattle.demands.proofs.SixteenGiven.{eighth, has_value}
-use Rattle.demands.proofs.Programs.{outcome, two, two_within, two_built, two_passes, four, lowering, lowered, is_lowered}
+use Rattle.demands.proofs.Programs.{outcome, may, two, two_within, two_built, two_passes, four, lowering, lowered, is_lowered}
 
 -- 23038 and 6912 are 11519·2 and 27·2^8
 abbrev numerator : Telling
@@ -53,29 +53,32 @@ at_1 = went_on refl (as_checked two_passes) (taken_inside (within tt tt))
 driven : Driving two (pos 1) 0 0 numerator
 driven = record { refusal = went_on refl (as_evaluated at_1) (taken_small (accepted_table refl two_passes) in_piece_0 (λ l. l.above.lt)); answer = answered on_the_fall.at_1 }
 
+its_value : Evaluated two (pos 1) 0 0 (negsuc 2)
+its_value = has_value {before = two.slopes} (within tt tt) in_piece_0 refl (two_built two.slopes refl)
+
 pub worked : Worked ours
 worked =
     record {
-      a_verdict = record { verdict = Rising; says = refl; promised = straight };
-      its_points = points_accepted eighth two_within refl;
-      a_build = two_built two.slopes refl;
-      a_check = two_passes;
-      a_piece = record { refusal = at_1; piece = answered in_piece_0 };
-      a_value = has_value {before = two.slopes} (within tt tt) in_piece_0 refl (two_built two.slopes refl);
-      a_float_answer = record { told = Move (record { left = fin false 0 (pos 0); numerator = fin true 11519 (pos 1); denominator = fin false 27 (pos 8) }); says = refl; promised = driven };
-      changed_points_are = is_lowered.refusal;
-      a_change = record { promised = is_lowered; the_unit = refl };
+      a_verdict = record { verdict = Ok Rising; says = refl; promised = straight };
+      its_points = may (points two) (outcome 0 0 tt tt) (points_accepted eighth two_within refl);
+      a_build = may (build two) (outcome 0 0 tt (negsuc 852 ∷ negsuc 852 ∷ [])) (two_built two.slopes refl);
+      a_check = may (check two) (outcome 0 0 tt tt) two_passes;
+      a_piece = may (locate two (pos 1)) (outcome 0 0 0 tt) (record { refusal = at_1; piece = answered in_piece_0 });
+      a_value = may (evaluate two (pos 1)) (outcome 0 0 (negsuc 2) tt) its_value;
+      a_float_answer = may (float_answer two (pos 1)) (outcome 0 0 numerator tt) driven;
+      changed_points_are = may (changed_points lowering four) (outcome 0 0 tt tt) is_lowered.refusal;
+      a_change = may (point [] lowering four) (outcome 0 0 tt lowered) is_lowered;
     }
 
 pub worked_in-C : Worked ours_in-C
 worked_in-C =
     record {
       a_verdict = judged straight;
-      its_points = worked.its_points;
-      a_build = worked.a_build;
-      a_check = worked.a_check;
-      a_piece = worked.a_piece;
-      a_value = worked.a_value;
+      its_points = points_accepted eighth two_within refl;
+      a_build = two_built two.slopes refl;
+      a_check = two_passes;
+      a_piece = record { refusal = at_1; piece = answered in_piece_0 };
+      a_value = its_value;
       a_float_answer =
           record {
             told = record { refusal = record { number = 0; place = 0 }; kind = 1; left = fin false 0 (pos 0); numerator = fin true 11519 (pos 1); denominator = fin false 27 (pos 8) };
@@ -83,6 +86,6 @@ worked_in-C =
             says = a_move refl;
             promised = moves driven;
           };
-      changed_points_are = worked.changed_points_are;
+      changed_points_are = is_lowered.refusal;
       a_change = record { promised = is_lowered; the_unit = refl };
     }

@@ -25,3 +25,4 @@ pub mod WrongDrives
 pub mod WrongNumbers
 pub mod WrongText
 pub mod WrongTies
+pub mod WrongTypes

@@ -19,6 +19,7 @@ use Rattle.curve.specs.Curve.{Evaluated}
 use Rattle.change.specs.Change.{Changed}
 use Rattle.change.specs.Figures.{point_0_lowered}
 use Rattle.demands.specs.Demands.{Call, judge, points, build, check, locate, evaluate, float_answer, changed_points, point, Outcome, Reply, Lists, Implementation, CauseOf, order_of, Demand1}
+use Rattle.demands.specs.Kept.{Promised, ours_keeps}
 use Rattle.demands.specs.Ours.{Asks, May}
 use Rattle.demands.specs.ByOrder.{refused_exactly}
 use Rattle.demands.specs.Refuting.{within, numbers_differ}
@@ -31,6 +32,10 @@ outcome number place answer lists = record { number = number; place = place; ans
 -- a program that answers so, and asks what ours does
 abbrev pub answering : ((call : Call) → Outcome call → Type 0) → Implementation
 answering may = record { Asks = Asks; May = may }
+
+-- what our functions promise may come out of them
+pub may : (call : Call) (o : Outcome call) → Promised call o → May call o
+may = ours_keeps.allowed
 
 -- ---- what may come out, call by call
 

@@ -1,5 +1,5 @@
 -- Wrong programs that break the first demand, each ours but for what is said of it. Between quotation marks are the words in which document 01 names it.
-use Rattle.std.specs.Prelude.{◌≡◌, refl, List, [], ◌∷◌, ℕ, zero, suc, ◌+◌, ◌^◌, ◌<◌, min, ℤ, pos, negsuc, ◌*ℤ◌, ◌<ℤ◌, length, set}
+use Rattle.std.specs.Prelude.{Ok, ◌≡◌, refl, List, [], ◌∷◌, ℕ, zero, suc, ◌+◌, ◌^◌, ◌<◌, min, ℤ, pos, negsuc, ◌*ℤ◌, ◌<ℤ◌, length, set}
 use Rattle.std.proofs.Common.{ap, arith, lit<, SFits, to_z, of_z}
 use Rattle.std.specs.Int.Signed.{le_z_yes, lt_z_yes}
 use Rattle.std.specs.Int.{w32}
@@ -210,7 +210,7 @@ a_piece_in_any_unit d =
     absurd (omega (
       arith,
       (its_refusal d (judge 9 (pos 1) (pos 1) (pos 256) (pos 256)) (outcome 0 0 rising tt)
-          (record { verdict = Rising; says = refl; promised = monotone eighth (within tt tt) (within tt tt) (below_the_line tt tt tt tt) }) (omega arith) (refused (Demands.no_such_unit (above_8 tt)) (λ q l. absurd (omega (arith, l))))).0,
+          (record { verdict = Ok Rising; says = refl; promised = monotone eighth (within tt tt) (within tt tt) (below_the_line tt tt tt tt) }) (omega arith) (refused (Demands.no_such_unit (above_8 tt)) (λ q l. absurd (omega (arith, l))))).0,
     ))
 
 -- the limit of the float answer in units: at s = 0 a piece of width 1,024 and rise 1,025 is then answered, which is "refused by 8 exactly if |z|·h³ > 2^40"

@@ -9,11 +9,11 @@ use Rattle.table.specs.Accepted.{points_accepted}
 use Rattle.table.specs.Table.{entry}
 use Rattle.rules.specs.Refusals.{answered}
 use Rattle.piece.specs.Promise.{Finding, rising, falling, flat, bends}
-use Rattle.demands.specs.Demands.{Implementation}
+use Rattle.demands.specs.Demands.{build, Implementation}
 use Rattle.demands.specs.Sixteen.{Case, Gives, All, none, ◌&◌, TheSixteen}
 use Rattle.demands.proofs.SixteenGiven.{eighth}
 use Rattle.demands.specs.Refuting.{numbers_differ}
-use Rattle.demands.proofs.Programs.{outcome, answering, another_judge, two, two_built, three_within, at_1, minus_three, ByThePaper, turned_away, not_by_less}
+use Rattle.demands.proofs.Programs.{outcome, may, answering, another_judge, two, two_built, three_within, at_1, minus_three, ByThePaper, turned_away, not_by_less}
 use Rattle.demands.proofs.WrongEnds.{at_the_first, secant}
 use Rattle.demands.proofs.Wrong2.{BySigns, leaving, idle_afterwards, valued_by, rounded_by, nearest_toward_zero}
 
@@ -58,7 +58,7 @@ not_by_the_old_end_rule s =
 
 -- the last: (0,0), (3,−10) have −3 at position 1, and not −4 or −2
 at_the_last : (round : ℤ → ℤ → ℤ) → TheSixteen (answering (valued_by (rounded_by round))) → pos 0 +ℤ round (numerator (unit 8) (pos 3) (negsuc 9) (negsuc 852) (negsuc 852) (pos 1)) (denominator (unit 8) (pos 3)) ≡ negsuc 2
-at_the_last round s = ((case s.each_is_given 15 two.slopes refl (outcome 0 0 tt two.slopes) (two_built two.slopes refl)).1 (outcome 0 0 _ tt) (minus_three.refusal, answered (0, (at_1, refl)))).2
+at_the_last round s = ((case s.each_is_given 15 two.slopes refl (outcome 0 0 tt two.slopes) (may (build two) (outcome 0 0 tt two.slopes) (two_built two.slopes refl))).1 (outcome 0 0 _ tt) (minus_three.refusal, answered (0, (at_1, refl)))).2
 
 pub not_by_rounding_down : TheSixteen (answering (valued_by (rounded_by floor_of))) → ⊥
 not_by_rounding_down s = numbers_differ tt (at_the_last floor_of s)

@@ -18,14 +18,14 @@ use Rattle.slopes.specs.Slopes.{built_slope, built_slopes, Built}
 use Rattle.position.specs.Position.{Belongs, inside, HoldsAt, evaluation_order}
 use Rattle.curve.specs.Curve.{Evaluated}
 use Rattle.curve.specs.Determined.{one_evaluation}
-use Rattle.demands.specs.Demands.{Call, judge, Outcome, CalledByItsRise, it_falls, NoSlopeAgainstItsRise, RightSlopes, Demand2}
+use Rattle.demands.specs.Demands.{build, Call, judge, Outcome, CalledByItsRise, it_falls, NoSlopeAgainstItsRise, RightSlopes, Demand2}
 use Rattle.demands.specs.Ours.{May}
 use Rattle.demands.specs.ByOrder.{none_holds}
 use Rattle.demands.specs.Cubic.{no_slope_against}
 use Rattle.demands.proofs.BothMeet.{not_bends}
 use Rattle.demands.proofs.SixteenGiven.{eighth, count, has_slopes, has_value}
 use Rattle.demands.specs.Refuting.{within, numbers_differ}
-use Rattle.demands.proofs.Programs.{outcome, answering, another_judge, another_build, another_check, another_evaluate, two, two_within, two_built, two_passes, three, three_within, at_1, minus_three, ByThePaper, turned_away, not_by_less, InOrderAtTheCounts, a_rise_at_its_counts}
+use Rattle.demands.proofs.Programs.{outcome, may, answering, another_judge, another_build, another_check, another_evaluate, two, two_within, two_built, two_passes, three, three_within, at_1, minus_three, ByThePaper, turned_away, not_by_less, InOrderAtTheCounts, a_rise_at_its_counts}
 use Rattle.demands.specs.Values.{the_exact_is_the_value}
 
 -- ======== "A piece within the limits gets a yes exactly when its cubic has no slope against its rise at any fraction of its width ..": no yes where there is to be one
@@ -121,7 +121,7 @@ every_table_bends d =
 -- the same check turns built tables away
 pub built_tables_bend_too : Demand2 (answering (another_check (λ t o. o ≡ outcome 5 0 tt tt))) → ⊥
 built_tables_bend_too d =
-    absurd (omega (arith, d.get_a_yes_always {t = two} {o = outcome 0 0 tt two.slopes} {p = outcome 5 0 tt tt} (two_built two.slopes refl) refl refl))
+    absurd (omega (arith, d.get_a_yes_always {t = two} {o = outcome 0 0 tt two.slopes} {p = outcome 5 0 tt tt} (may (build two) (outcome 0 0 tt two.slopes) (two_built two.slopes refl)) refl refl))
 
 -- ======== "Slopes you build are Fritsch and Butland's mean at inner points and document 01's rule at the two ends, in its units", as request 2 of document 02 amends that rule
 

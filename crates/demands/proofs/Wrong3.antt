@@ -11,10 +11,10 @@ use Rattle.slopes.specs.Slopes.{built_slopes}
 use Rattle.slopes.specs.Put.{put}
 use Rattle.change.specs.Change.{Renews, before_it, at_it, behind_it, slope_0, the_last, Changed}
 use Rattle.change.specs.Figures.{made, point_1_moved_onto_point_2}
-use Rattle.demands.specs.Demands.{Call, Outcome, none, next, JustThis, Demand3}
+use Rattle.demands.specs.Demands.{build, Call, Outcome, none, next, JustThis, Demand3}
 use Rattle.demands.proofs.SixteenGiven.{eighth, count, has_slopes}
 use Rattle.demands.specs.Refuting.{numbers_differ}
-use Rattle.demands.proofs.Programs.{outcome, answering, another_point, four, four_built, lowering, lowered, lowered_within, is_lowered, lowered_built}
+use Rattle.demands.proofs.Programs.{outcome, may, answering, another_point, four, four_built, lowering, lowered, lowered_within, is_lowered, lowered_built}
 
 -- A change that refuses as ours does, and where it does not leaves something in place of what ours leaves; it may go by the changes made before.
 abbrev pub when_done : ℕ → (old new : Table) → Table
@@ -189,14 +189,14 @@ pub slopes_that_are_not_those_built_afresh : Demand3 (answering (leaving its_slo
 slopes_that_are_not_those_built_afresh d =
     let left = its_slope_alone [] lowering four lowered in
     numbers_differ tt (ap (λ (slopes : List ℤ). entry slopes 1) (d.the_slopes_equal_those_built_afresh {t = four} {o = outcome 0 0 tt four.slopes} {changes = lowering ∷ []} {u = left} {again = four.slopes} {p = outcome 0 0 tt lowered.slopes}
-    (four_built four.slopes refl) refl (next {o = outcome 0 0 tt left} (lowered, (is_lowered, refl)) none) refl (lowered_built four.slopes refl)).1)
+    (may (build four) (outcome 0 0 tt four.slopes) (four_built four.slopes refl)) refl (next {o = outcome 0 0 tt left} (lowered, (is_lowered, refl)) none) refl (may (build (table left.s left.knots left.values four.slopes)) (outcome 0 0 tt lowered.slopes) (lowered_built four.slopes refl))).1)
 
 -- renewing the slopes at it and beside it alone
 pub slopes_at_the_ends_that_are_not_those_built_afresh : Demand3 (answering (leaving these_three_alone)) → ⊥
 slopes_at_the_ends_that_are_not_those_built_afresh d =
     let left = these_three_alone [] sinking four sunk in
     numbers_differ tt (ap (λ (slopes : List ℤ). entry slopes 0) (d.the_slopes_equal_those_built_afresh {t = four} {o = outcome 0 0 tt four.slopes} {changes = sinking ∷ []} {u = left} {again = four.slopes} {p = outcome 0 0 tt sunk.slopes}
-    (four_built four.slopes refl) refl (next {o = outcome 0 0 tt left} (sunk, (is_sunk, refl)) none) refl (has_slopes eighth (points_by_test _ _ refl (count tt tt) tt) refl refl)).1)
+    (may (build four) (outcome 0 0 tt four.slopes) (four_built four.slopes refl)) refl (next {o = outcome 0 0 tt left} (sunk, (is_sunk, refl)) none) refl (may (build (table left.s left.knots left.values four.slopes)) (outcome 0 0 tt sunk.slopes) (has_slopes eighth (points_by_test _ _ refl (count tt tt) tt) refl refl))).1)
 
 -- the same from the second change on: the first, of point 1 onto point 2, is refused
 abbrev pub from_the_second_on : List Change → Change → (before ours : Table) → Table
@@ -208,7 +208,7 @@ a_chain_wrong_from_its_second_change_on d =
     let onto_the_next : Change = record { point = 1; knot = pos 2; value = pos 1 } in
     let left = its_slope_alone [] lowering four lowered in
     numbers_differ tt (ap (λ (slopes : List ℤ). entry slopes 1) (d.the_slopes_equal_those_built_afresh {t = four} {o = outcome 0 0 tt four.slopes} {changes = onto_the_next ∷ lowering ∷ []} {u = left} {again = four.slopes} {p = outcome 0 0 tt lowered.slopes}
-    (four_built four.slopes refl) refl (next {o = outcome 3 1 tt four} (four, (point_1_moved_onto_point_2, refl)) (next {o = outcome 0 0 tt left} (lowered, (is_lowered, refl)) none)) refl (lowered_built four.slopes refl)).1)
+    (may (build four) (outcome 0 0 tt four.slopes) (four_built four.slopes refl)) refl (next {o = outcome 3 1 tt four} (four, (point_1_moved_onto_point_2, refl)) (next {o = outcome 0 0 tt left} (lowered, (is_lowered, refl)) none)) refl (may (build (table left.s left.knots left.values four.slopes)) (outcome 0 0 tt lowered.slopes) (lowered_built four.slopes refl))).1)
 
 -- ======== "It is refused exactly when a fresh build of the changed points would be, or the point isn't there."
 
@@ -216,10 +216,10 @@ a_chain_wrong_from_its_second_change_on d =
 pub a_change_that_always_refuses : Demand3 (answering (another_point (λ made c t o. o ≡ outcome 7 0 tt t))) → ⊥
 a_change_that_always_refuses d =
     ⊎_elim (λ f. f refl) (λ l. omega (arith, l))
-    ((d.refused_exactly_as_a_build {made = []} {c = lowering} {t = four} {o = outcome 7 0 tt four} {p = outcome 0 0 tt lowered.slopes} refl (lowered_built four.slopes refl)).0 (λ e. omega (arith, e)))
+    ((d.refused_exactly_as_a_build {made = []} {c = lowering} {t = four} {o = outcome 7 0 tt four} {p = outcome 0 0 tt lowered.slopes} refl (may (build (table four.s lowered.knots lowered.values four.slopes)) (outcome 0 0 tt lowered.slopes) (lowered_built four.slopes refl))).0 (λ e. omega (arith, e)))
 
 -- a point that isn't there, number 4, is changed all the same
 pub a_change_that_never_refuses : Demand3 (answering (another_point (λ made c t o. o ≡ outcome 0 0 tt (changed_by c t)))) → ⊥
 a_change_that_never_refuses d =
     let nowhere : Change = record { point = 4; knot = pos 4; value = pos 7 } in
-    (d.refused_exactly_as_a_build {made = []} {c = nowhere} {t = four} {o = outcome 0 0 tt four} {p = outcome 0 0 tt four.slopes} refl (four_built four.slopes refl)).1 (inr (lit≤ tt)) refl
+    (d.refused_exactly_as_a_build {made = []} {c = nowhere} {t = four} {o = outcome 0 0 tt four} {p = outcome 0 0 tt four.slopes} refl (may (build (changed_by nowhere four)) (outcome 0 0 tt four.slopes) (four_built four.slopes refl))).1 (inr (lit≤ tt)) refl

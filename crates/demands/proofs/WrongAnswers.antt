@@ -8,11 +8,11 @@ use Rattle.answers.specs.declared.filling.Signed.{Signed}
 use Rattle.answers.specs.Filling.{filled}
 use Rattle.answers.specs.Texts.{entry_of}
 use Rattle.demands.specs.ByContract.{to_change}
-use Rattle.demands.proofs.InstancesBelow.{bytes, seven, minus_zero, three}
+use Rattle.demands.proofs.InstancesBelow.{bytes, three_numbers}
 use Rattle.demands.specs.Refuting.{lists_differ}
-use Rattle.answers.proofs.natural.Reads as answers-natural
-use Rattle.answers.proofs.whole.Reads as answers-whole
-use Rattle.answers.proofs.whole32.Reads as answers-whole32
+use Rattle.answers.proofs.filling.SignedFromU64.from.Reads as answers-natural
+use Rattle.answers.proofs.filling.SignedFromI64.from.Reads as answers-whole
+use Rattle.answers.proofs.filling.SignedFromI32.from.Reads as answers-whole32
 use Rattle.answers.proofs.fill.Reads as answers-fill
 use Rattle.answers.proofs.entry.Reads as answers-entry
 
@@ -27,7 +27,7 @@ bit false = 0
 abbrev sign_and_size : Signed → List ℤ
 sign_and_size s = pos (bit s.negative) ∷ pos s.size ∷ []
 
--- ---- answers::natural
+-- ---- answers::Signed::from, of 64 bits without a sign
 
 abbrev natural : ℕ → (negative : Bool) (size : ℕ) → Type 0
 natural n negative size = answers-natural.Post tt (n, tt) (record { negative = negative; size = size }) (n, tt)
@@ -44,7 +44,7 @@ natural_always_0 p = lists_differ tt (ap sign_and_size p)
 pub natural_as_its_bits : natural 18446744073709551615 true 1 → ⊥
 natural_as_its_bits p = lists_differ tt (ap sign_and_size p)
 
--- ---- answers::whole
+-- ---- answers::Signed::from, of 64 bits
 
 abbrev whole : ℤ → (negative : Bool) (size : ℕ) → Type 0
 whole n negative size = answers-whole.Post tt (n, tt) (record { negative = negative; size = size }) (n, tt)
@@ -65,7 +65,7 @@ whole_minus_zero p = lists_differ tt (ap sign_and_size p)
 pub least_whole_too_small : whole (negsuc 9223372036854775807) true 9223372036854775807 → ⊥
 least_whole_too_small p = lists_differ tt (ap sign_and_size p)
 
--- ---- answers::whole32
+-- ---- answers::Signed::from, of 32 bits
 
 abbrev whole32 : ℤ → (negative : Bool) (size : ℕ) → Type 0
 whole32 n negative size = answers-whole32.Post tt (n, tt) (record { negative = negative; size = size }) (n, tt)
@@ -87,8 +87,8 @@ least_whole32_too_small p = lists_differ tt (ap sign_and_size p)
 -- with the numbers 7, −0 and 3
 abbrev fill : (before : List ℕ) (held : ℕ) (template text after : List ℕ) (r : ℕ) → Type 0
 fill before held template text after r =
-    answers-fill.Post ([], ([], ([], tt))) (to_change before, (held, (bytes template, (bytes text, (seven, (minus_zero, (three, tt))))))) r
-    (to_change after, (held, (bytes template, (bytes text, (seven, (minus_zero, (three, tt)))))))
+    answers-fill.Post ([], ([], ([], ([], tt)))) (to_change before, (held, (bytes template, (bytes text, (three_numbers, tt))))) r
+    (to_change after, (held, (bytes template, (bytes text, (three_numbers, tt)))))
 
 -- `#,#` is `7,-0`, and not `7,7`
 pub first_number_again : fill (46 ∷ 46 ∷ 46 ∷ 46 ∷ []) 0 (35 ∷ 44 ∷ 35 ∷ []) [] (55 ∷ 44 ∷ 55 ∷ 46 ∷ []) 3 → ⊥

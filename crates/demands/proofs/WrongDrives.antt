@@ -24,6 +24,7 @@ use Rattle.drive.specs.Refused.{accepted_for}
 use Rattle.drive.specs.Figures.{minus_zero_is_no_zero}
 use Rattle.exports.specs.Cases.{dwells, moves}
 use Rattle.demands.specs.ByContract.{Drives, DrivesC}
+use Rattle.demands.specs.Said.{drives_say}
 use Rattle.demands.specs.Refuting.{within, overlooked, so_it_holds, no_unit, in_piece, not_outside, answers_nothing, apart, numbers_differ}
 
 -- ---- a float is one whole number only
@@ -83,35 +84,35 @@ not_too_large f (of_position (of_table h)) = elim h [ ]
 not_too_large f (too_large b l) = f l
 
 pub a_limit_too_low : (a : Answer) → Drives (table 8 (pos 0 ∷ pos 1024 ∷ []) (pos 0 ∷ pos 1024 ∷ []) (pos 256 ∷ pos 256 ∷ [])) (pos 0) 8 0 a → ⊥
-a_limit_too_low a p = not_too_large (λ l. l.above.lt) (so_it_holds p.refusal)
+a_limit_too_low a p = not_too_large (λ l. l.above.lt) (so_it_holds (drives_say p).refusal)
 
 -- 2^40 + 41564, the first size above 2^40 that any piece has
 pub a_limit_too_high : (a : Answer) → Drives (table 8 (pos 0 ∷ pos 189 ∷ []) (pos 0 ∷ pos 162860 ∷ []) (pos 0 ∷ pos 0 ∷ [])) (pos 0) 0 0 a → ⊥
-a_limit_too_high a p = overlooked p.refusal 8 0 (too_large (in_piece 0 tt tt tt) (record { above = lt_z_yes tt })) tt
+a_limit_too_high a p = overlooked (drives_say p).refusal 8 0 (too_large (in_piece 0 tt tt tt) (record { above = lt_z_yes tt })) tt
 
 -- the limit in units: at s = 0 it would lie 256 times as high
 pub a_limit_in_units : (a : Answer) → Drives (table 0 (pos 0 ∷ pos 1024 ∷ []) (pos 0 ∷ pos 1025 ∷ []) (pos 0 ∷ pos 0 ∷ [])) (pos 0) 0 0 a → ⊥
-a_limit_in_units a p = overlooked p.refusal 8 0 (too_large (in_piece 0 tt tt tt) (record { above = lt_z_yes tt })) tt
+a_limit_in_units a p = overlooked (drives_say p).refusal 8 0 (too_large (in_piece 0 tt tt tt) (record { above = lt_z_yes tt })) tt
 
 pub falls_never_too_large : (a : Answer) → Drives (table 8 (pos 0 ∷ pos 1024 ∷ []) (pos 0 ∷ negsuc 1024 ∷ []) (pos 0 ∷ pos 0 ∷ [])) (pos 0) 0 0 a → ⊥
-falls_never_too_large a p = overlooked p.refusal 8 0 (too_large (in_piece 0 tt tt tt) (record { above = lt_z_yes tt })) tt
+falls_never_too_large a p = overlooked (drives_say p).refusal 8 0 (too_large (in_piece 0 tt tt tt) (record { above = lt_z_yes tt })) tt
 
 abbrev large : Table
 large = table 8 (pos 0 ∷ pos 1024 ∷ []) (pos 0 ∷ pos 1025 ∷ []) (pos 256 ∷ pos 256 ∷ [])
 
 -- |z|·h² held to the limit, and not |z|·h³
 pub the_width_squared : (a : Answer) → Drives large (pos 0) 0 0 a → ⊥
-the_width_squared a p = overlooked p.refusal 8 0 (too_large (in_piece 0 tt tt tt) (record { above = lt_z_yes tt })) tt
+the_width_squared a p = overlooked (drives_say p).refusal 8 0 (too_large (in_piece 0 tt tt tt) (record { above = lt_z_yes tt })) tt
 
 outside_only : {t : Table} {x : ℤ} → WithinKnots t.knots x → HoldsFor t x 6 0 → ⊥
 outside_only b (of_position h) = not_outside b h
 
 pub too_large_refused_by_6 : (a : Answer) → Drives large (pos 0) 6 0 a → ⊥
-too_large_refused_by_6 a p = outside_only (within tt tt) (so_it_holds p.refusal)
+too_large_refused_by_6 a p = outside_only (within tt tt) (so_it_holds (drives_say p).refusal)
 
 -- the second piece is too large, and the position at its left knot
 pub too_large_refused_at_place_0 : (a : Answer) → Drives (table 8 (pos 0 ∷ pos 1 ∷ pos 1025 ∷ []) (pos 0 ∷ pos 0 ∷ pos 1025 ∷ []) (pos 0 ∷ pos 0 ∷ pos 0 ∷ [])) (pos 1) 8 0 a → ⊥
-too_large_refused_at_place_0 a p = not_too_large (λ l. l.above.lt) (so_it_holds p.refusal)
+too_large_refused_at_place_0 a p = not_too_large (λ l. l.above.lt) (so_it_holds (drives_say p).refusal)
 
 -- ---- another move
 
@@ -126,42 +127,42 @@ abbrev whole_fall : Table
 whole_fall = table 0 (pos 0 ∷ pos 3 ∷ []) (pos 0 ∷ negsuc 9 ∷ []) (negsuc 2 ∷ negsuc 2 ∷ [])
 
 pub told_in_any_unit : (a : Answer) → Drives (table 9 (pos 0 ∷ pos 3 ∷ []) (pos 0 ∷ negsuc 9 ∷ []) (negsuc 2 ∷ negsuc 2 ∷ [])) (pos 1) 0 0 a → ⊥
-told_in_any_unit a p = overlooked p.refusal 12 0 (of_position (of_table (no_unit tt))) tt
+told_in_any_unit a p = overlooked (drives_say p).refusal 12 0 (of_position (of_table (no_unit tt))) tt
 
 module _ {left above below : Float} where
   -- 256·h³ below the line of whole slopes, and not 27
   pub below_in_256ths : Exactly binary64 (pos 6912) below → Drives whole_fall (pos 1) 0 0 (moving left above below) → ⊥
-  below_in_256ths e p = numbers_differ tt (one_number e (below_the_line (on_its_piece p (in_piece 0 tt tt tt))))
+  below_in_256ths e p = numbers_differ tt (one_number e (below_the_line (on_its_piece (drives_say p) (in_piece 0 tt tt tt))))
 
   -- t for h in Horner's second step: 2048, and not 14336
   pub another_step : Exactly binary64 (pos 2048) above → Drives (table 8 (pos 0 ∷ pos 3 ∷ []) (pos 0 ∷ pos 8 ∷ []) (pos 0 ∷ pos 0 ∷ [])) (pos 1) 0 0 (moving left above below) → ⊥
-  another_step e p = numbers_differ tt (one_number e (above_the_line (on_its_piece p (in_piece 0 tt tt tt))))
+  another_step e p = numbers_differ tt (one_number e (above_the_line (on_its_piece (drives_say p) (in_piece 0 tt tt tt))))
 
   -- t for one h in the third: −7684, and not −23038
   pub another_last_step : Exactly binary64 (negsuc 7683) above → Drives fall (pos 1) 0 0 (moving left above below) → ⊥
-  another_last_step e p = numbers_differ tt (one_number e (above_the_line (on_its_piece p (in_piece 0 tt tt tt))))
+  another_last_step e p = numbers_differ tt (one_number e (above_the_line (on_its_piece (drives_say p) (in_piece 0 tt tt tt))))
 
   -- 2Z for 3Z in the square's coefficient, and 3Z for 2Z in the cube's: 1024 and 1536, and not 2048
   pub a_move_with_another_square : Exactly binary64 (pos 1024) above → Drives line (pos 1) 0 0 (moving left above below) → ⊥
-  a_move_with_another_square e p = numbers_differ tt (one_number e (above_the_line (on_its_piece p (in_piece 0 tt tt tt))))
+  a_move_with_another_square e p = numbers_differ tt (one_number e (above_the_line (on_its_piece (drives_say p) (in_piece 0 tt tt tt))))
 
   pub a_move_with_another_cube : Exactly binary64 (pos 1536) above → Drives line (pos 1) 0 0 (moving left above below) → ⊥
-  a_move_with_another_cube e p = numbers_differ tt (one_number e (above_the_line (on_its_piece p (in_piece 0 tt tt tt))))
+  a_move_with_another_cube e p = numbers_differ tt (one_number e (above_the_line (on_its_piece (drives_say p) (in_piece 0 tt tt tt))))
 
   -- the right end's numerator at every position: −69120, and not −23038
   pub a_move_at_another_position : Exactly binary64 (negsuc 69119) above → Drives fall (pos 1) 0 0 (moving left above below) → ⊥
-  a_move_at_another_position e p = numbers_differ tt (one_number e (above_the_line (on_its_piece p (in_piece 0 tt tt tt))))
+  a_move_at_another_position e p = numbers_differ tt (one_number e (above_the_line (on_its_piece (drives_say p) (in_piece 0 tt tt tt))))
 
   -- the left slope on the left: 256, and not 5
   pub a_move_from_another_value : Exactly binary64 (pos 256) left → Drives (table 8 (pos 0 ∷ pos 1 ∷ []) (pos 5 ∷ pos 6 ∷ []) (pos 256 ∷ pos 256 ∷ [])) (pos 0) 0 0 (moving left above below) → ⊥
-  a_move_from_another_value e p = numbers_differ tt (one_number e (on_the_left (on_its_piece p (in_piece 0 tt tt tt))))
+  a_move_from_another_value e p = numbers_differ tt (one_number e (on_the_left (on_its_piece (drives_say p) (in_piece 0 tt tt tt))))
 
   -- 256·3·h² below: 3072, and not 2048
   pub a_move_over_another_number : Exactly binary64 (pos 3072) below → Drives line (pos 1) 0 0 (moving left above below) → ⊥
-  a_move_over_another_number e p = numbers_differ tt (one_number e (below_the_line (on_its_piece p (in_piece 0 tt tt tt))))
+  a_move_over_another_number e p = numbers_differ tt (one_number e (below_the_line (on_its_piece (drives_say p) (in_piece 0 tt tt tt))))
 
 pub minus_zero_let_through : {left below : Float} → Drives fall (pos 0) 0 0 (moving left −0 below) → ⊥
-minus_zero_let_through p = minus_zero_is_no_zero (above_the_line (on_its_piece p (in_piece 0 tt tt tt)))
+minus_zero_let_through p = minus_zero_is_no_zero (above_the_line (on_its_piece (drives_say p) (in_piece 0 tt tt tt)))
 
 -- ---- a move for a dwell, a dwell for a move
 
@@ -178,10 +179,10 @@ rise_dwells : {level : Float} → Driving rise (pos 0) 0 0 (dwell level) → ⊥
 rise_dwells d = numbers_differ tt (no_rise (on_its_piece d (in_piece 0 tt tt tt)))
 
 pub a_move_on_a_flat_piece : {left above below : Float} → Drives flat (pos 0) 0 0 (moving left above below) → ⊥
-a_move_on_a_flat_piece p = flat_moves p
+a_move_on_a_flat_piece p = flat_moves (drives_say p)
 
 pub a_dwell_on_a_rise : {level : Float} → Drives rise (pos 0) 0 0 (Dwell level) → ⊥
-a_dwell_on_a_rise p = rise_dwells p
+a_dwell_on_a_rise p = rise_dwells (drives_say p)
 
 -- ---- a refusal that is no dwell at +0: of one point alone
 
@@ -197,13 +198,13 @@ level_of (dwell level) = level
 level_of (move left above below) = left
 
 pub a_refusal_at_level_1 : {x : ℤ} {level : Float} → Exactly binary64 (pos 1) level → Drives alone x 2 0 (Dwell level) → ⊥
-a_refusal_at_level_1 e p = numbers_differ tt (one_number (subst (Exactly binary64 (pos 1)) (ap level_of (answers_nothing p.answer)) e) (plus_zero binary64))
+a_refusal_at_level_1 e p = numbers_differ tt (one_number (subst (Exactly binary64 (pos 1)) (ap level_of (answers_nothing (drives_say p).answer)) e) (plus_zero binary64))
 
 pub a_refusal_at_minus_zero : {x : ℤ} → Drives alone x 2 0 (Dwell −0) → ⊥
-a_refusal_at_minus_zero p = minus_zero_is_no_zero (subst (Exactly binary64 (pos 0)) (sym (ap level_of (answers_nothing p.answer))) (plus_zero binary64))
+a_refusal_at_minus_zero p = minus_zero_is_no_zero (subst (Exactly binary64 (pos 0)) (sym (ap level_of (answers_nothing (drives_say p).answer))) (plus_zero binary64))
 
 pub a_refusal_that_moves : {x : ℤ} {left above below : Float} → Drives alone x 2 0 (moving left above below) → ⊥
-a_refusal_that_moves p = apart is_move (answers_nothing p.answer) tt tt
+a_refusal_that_moves p = apart is_move (answers_nothing (drives_say p).answer) tt tt
 
 -- ---- a wrong record for C, in which a dwell is kind 0 and a move kind 1
 

@@ -5,6 +5,7 @@ use Rattle.std.specs.Prelude.{refl, Bool, true, false, ◌⊎◌, ℕ, ℤ, pos,
 use Rattle.std.proofs.Common.{inl, inr, arith, lit≤}
 use Rattle.std.specs.Int.Signed.{le_z_yes, lt_z_yes}
 use Rattle.integers.specs.Decided.{told, denied}
+use Rattle.rules.specs.Known.{UnitSize}
 use Rattle.demands.specs.Refuting.{within, numbers_differ}
 use Rattle.integers.proofs.difference.Reads as integers-difference
 use Rattle.integers.proofs.between.Reads as integers-between
@@ -163,18 +164,18 @@ the_finest_unit_refused p = denied (either p) refl (record { high = lit≤ tt })
 pub whole_slopes_refused : unit_within 0 false → ⊥
 whole_slopes_refused p = denied (either p) refl (record { high = lit≤ tt })
 
--- where what it requires is met, 2^s is neither 2·s nor always 256, and 1 at 0
+-- where what it requires is met, 2^s is neither 2·s nor always 256, and 1 at 0; a unit is from 1 to 256, whatever the proof of that
 abbrev pub UnitIsNot : ℕ → ℤ → Type 0
-UnitIsNot s u = rules-unit.Pre tt (s, tt) × (rules-unit.Post tt (s, tt) u (s, tt) → ⊥)
+UnitIsNot s u = rules-unit.Pre tt (s, tt) × ((w : UnitSize u) → rules-unit.Post tt (s, tt) (record { size = u; within = w }) (s, tt) → ⊥)
 
 pub twice_its_number : UnitIsNot 3 (pos 6)
-twice_its_number = (record { high = lit≤ tt }, λ p. numbers_differ tt p.0)
+twice_its_number = (record { high = lit≤ tt }, λ w p. numbers_differ tt p)
 
 pub always_256 : UnitIsNot 0 (pos 256)
-always_256 = (record { high = lit≤ tt }, λ p. numbers_differ tt p.0)
+always_256 = (record { high = lit≤ tt }, λ w p. numbers_differ tt p)
 
 pub no_unit_at_0 : UnitIsNot 0 (pos 0)
-no_unit_at_0 = (record { high = lit≤ tt }, λ p. numbers_differ tt p.0)
+no_unit_at_0 = (record { high = lit≤ tt }, λ w p. numbers_differ tt p)
 
 -- ---- rules::count_within
 

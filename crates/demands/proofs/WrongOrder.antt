@@ -15,20 +15,20 @@ use Rattle.table.specs.WouldBe.{changed_by}
 use Rattle.slopes.specs.EveryPiece.{a_built_table_passes_the_table_check}
 use Rattle.position.specs.Position.{Belongs, inside, WithinKnots, HoldsAt, evaluation_order}
 use Rattle.position.specs.Refused.{table_refused, none_refused}
-use Rattle.curve.specs.Curve.{value_on, ValueAt, Evaluated}
-use Rattle.demands.specs.Demands.{Call, check, evaluate, Outcome, none, next}
+use Rattle.curve.specs.Curve.{value_on, ValueAt}
+use Rattle.demands.specs.Demands.{build, Call, check, evaluate, Outcome, none, next}
 use Rattle.demands.specs.Ours.{May}
 use Rattle.demands.specs.NeverBacksUp.{NeverBacksUp}
 use Rattle.demands.proofs.SixteenGiven.{eighth, count, has_slopes}
 use Rattle.demands.specs.Refuting.{within, against_its_rise, numbers_differ}
-use Rattle.demands.proofs.Programs.{outcome, answering, another_check, another_evaluate, another_point, InOrderAtTheCounts, a_rise_at_its_counts, a_fall_at_its_counts, a_level_at_its_counts, two, two_built, two_passes}
+use Rattle.demands.proofs.Programs.{outcome, may, answering, another_check, another_evaluate, another_point, InOrderAtTheCounts, a_rise_at_its_counts, a_fall_at_its_counts, a_level_at_its_counts, two, two_built, two_passes}
 use Rattle.demands.proofs.Wrong2.{valued_by}
 
 -- ======== "For any table the check accepts": an answer exactly there
 
 pub an_evaluation_that_always_refuses : NeverBacksUp (answering (another_evaluate (λ t x o. o ≡ outcome 6 0 (pos 0) tt))) → ⊥
 an_evaluation_that_always_refuses s =
-    absurd (omega (arith, (s.answered_exactly_then {t = two} {x = pos 1} {c = outcome 0 0 tt tt} {o = outcome 6 0 (pos 0) tt} two_passes refl).1 (refl, (0, (lit< tt, (le_z_yes tt, le_z_yes tt))))))
+    absurd (omega (arith, (s.answered_exactly_then {t = two} {x = pos 1} {c = outcome 0 0 tt tt} {o = outcome 6 0 (pos 0) tt} (may (check two) (outcome 0 0 tt tt) two_passes) refl).1 (refl, (0, (lit< tt, (le_z_yes tt, le_z_yes tt))))))
 
 -- ======== A table that is followed whether it bends or not: its points are looked at, and not its slopes
 
@@ -75,7 +75,7 @@ up_bends = went_on refl (points_accepted eighth up_within refl) (refused (not_mo
 
 pub an_answer_on_a_table_that_bends : NeverBacksUp (answering whether_it_bends_or_not) → ⊥
 an_answer_on_a_table_that_bends s =
-    absurd (omega (arith, ((s.answered_exactly_then {t = up} {x = pos 1} {c = outcome 5 0 tt tt} {o = outcome 0 0 (pos 37) tt} up_bends (followed up_within at_1 (pos 37) refl)).0 refl).0))
+    absurd (omega (arith, ((s.answered_exactly_then {t = up} {x = pos 1} {c = outcome 5 0 tt tt} {o = outcome 0 0 (pos 37) tt} (may (check up) (outcome 5 0 tt tt) up_bends) (followed up_within at_1 (pos 37) refl)).0 refl).0))
 
 pub back_down_on_a_rise : NeverBacksUp (answering whether_it_bends_or_not) → ⊥
 back_down_on_a_rise s =
@@ -185,7 +185,7 @@ a_change_that_renews_no_slope s =
     absurd (omega (
       arith,
       (s.after_any_changes {t = two} {b = outcome 0 0 tt two.slopes} {changes = lifting ∷ []} {u = changed_by lifting two} {x = pos 0} {y = pos 0} {o = outcome 5 0 (pos 0) tt} {p = outcome 5 0 (pos 0) tt}
-          (two_built two.slopes refl) refl (next refl none) no_answer no_answer 0 (lit< tt) (le_z_yes tt) (le_z_yes tt) (le_z_yes tt)).0.0,
+          (may (build two) (outcome 0 0 tt two.slopes) (two_built two.slopes refl)) refl (next refl none) no_answer no_answer 0 (lit< tt) (le_z_yes tt) (le_z_yes tt) (le_z_yes tt)).0.0,
     ))
   where
     lifting : Change
@@ -194,13 +194,13 @@ a_change_that_renews_no_slope s =
     bends : Given (Holds (changed_by lifting two)) check_order 5 0
     bends = went_on refl (points_accepted eighth up_within refl) (refused (not_monotone (lit< tt) (against_its_rise 0 1 tt tt tt tt)) (λ _ l _. absurd (omega (arith, l))))
 
-    no_answer : Evaluated (changed_by lifting two) (pos 0) 5 0 (pos 0)
-    no_answer = record { refusal = table_refused bends (λ e. omega (arith, e)); value = nothing }
+    no_answer : May (evaluate (changed_by lifting two) (pos 0)) (outcome 5 0 (pos 0) tt)
+    no_answer = may (evaluate (changed_by lifting two) (pos 0)) (outcome 5 0 (pos 0) tt) (record { refusal = table_refused bends (λ e. omega (arith, e)); value = nothing })
 
 -- The accident: point 0 is put to the last count of 32 bits and point 1 to the first, and their difference wraps to 1.
 pub counts_put_to_opposite_ends : NeverBacksUp (answering written_unasked) → ⊥
 counts_put_to_opposite_ends s =
-    (s.no_width_has_wrapped {t = two} {b = outcome 0 0 tt two.slopes} {changes = to_the_last ∷ to_the_first ∷ []} {u = changed_by to_the_first (changed_by to_the_last two)} (two_built two.slopes refl) refl (next refl (next refl none)) 0 (lit< tt)).low.le
+    (s.no_width_has_wrapped {t = two} {b = outcome 0 0 tt two.slopes} {changes = to_the_last ∷ to_the_first ∷ []} {u = changed_by to_the_first (changed_by to_the_last two)} (may (build two) (outcome 0 0 tt two.slopes) (two_built two.slopes refl)) refl (next refl (next refl none)) 0 (lit< tt)).low.le
   where
     to_the_last : Change
     to_the_last = record { point = 0; knot = pos 2147483647; value = pos 0 }

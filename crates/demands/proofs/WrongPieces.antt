@@ -1,6 +1,6 @@
 -- Wrong programs for one piece. Each theorem is named by one, and says that what it would answer of a piece does not meet the contract: of `judge`, of `is_monotone` which judge
 -- asks, of `coefficients`, or of `negwafir_judge` which C links. `ByContract.antt` says what each may answer.
-use Rattle.std.specs.Prelude.{refl, Bool, true, false, not, ℕ, T, ℤ, pos, negsuc}
+use Rattle.std.specs.Prelude.{refl, Bool, true, false, not, ℕ, T, ℤ, pos, negsuc, Ok, Err}
 use Rattle.std.proofs.Common.{ap, arith, lit≤}
 use Rattle.std.specs.Int.Signed.{lt_z_yes}
 use Rattle.integers.specs.Decided.{told, denied}
@@ -8,8 +8,10 @@ use Rattle.cubic.specs.Piece.{Monotone}
 use Rattle.cubic.proofs.Monotone.{monotone_level}
 use Rattle.rules.specs.Limits.{unit, UnitWithin, WidthWithin, RiseWithin}
 use Rattle.rules.specs.Known.{unit_size}
+use Rattle.rules.specs.declared.Cause.TheVariants.{SlopeUnit, Width, Rise}
+use Rattle.rules.specs.Causes.{at_place_0}
 use Rattle.piece.specs.declared.Verdict.{Verdict}
-use Rattle.piece.specs.declared.Verdict.TheVariants.{Rising, Falling, Flat, Bends, Refused}
+use Rattle.piece.specs.declared.Verdict.TheVariants.{Rising, Falling, Flat, Bends}
 use Rattle.piece.specs.Promise.{rising, falling, flat, bends, none, Ruling, ruling, ruling_of, leaning, unit_refused, width_refused, monotone, bent}
 use Rattle.piece.specs.Determined.{one_ruling}
 use Rattle.exports.specs.declared.answers.Judgement.{Judgement}
@@ -24,11 +26,11 @@ use Rattle.demands.specs.Refuting.{within, above_8, against_its_rise, below_the_
 
 -- The piece does not bend: `judge` may not answer so, nor may `is_monotone` say no where what it requires is met.
 abbrev pub DoesNotBend : (s : ℕ) (h z m n : ℤ) → Type 0
-DoesNotBend s h z m n = (Judges s h z m n Bends → ⊥) × (AskedMonotone (unit s) h z m n × (SaysMonotone (unit s) h z m n false → ⊥))
+DoesNotBend s h z m n = (Judges s h z m n (Ok Bends) → ⊥) × ((a : AskedMonotone (unit s) h z m n) × (SaysMonotone (unit s) h z m n a false → ⊥))
 
 -- It bends: `judge` may not answer this verdict, nor may `is_monotone` say yes.
 abbrev pub IsNot : Verdict → (s : ℕ) (h z m n : ℤ) → Type 0
-IsNot verdict s h z m n = (Judges s h z m n verdict → ⊥) × (AskedMonotone (unit s) h z m n × (SaysMonotone (unit s) h z m n true → ⊥))
+IsNot verdict s h z m n = (Judges s h z m n (Ok verdict) → ⊥) × ((a : AskedMonotone (unit s) h z m n) × (SaysMonotone (unit s) h z m n a true → ⊥))
 
 abbrev bending : Ruling → Bool
 bending (ruling number place rising) = false
@@ -39,10 +41,10 @@ bending (ruling number place none) = false
 
 module _ {s : ℕ} {h z m n : ℤ} (u : UnitWithin s) (w : WidthWithin h) (r : RiseWithin z) where
   straight : T (not (bending (ruling 0 0 (leaning z)))) → Monotone (unit s) h z m n → DoesNotBend s h z m n
-  straight t o = (λ p. apart bending (one_ruling p (monotone u w r o)) tt t, ((unit_size u, (w, r)), λ d. denied d refl o))
+  straight t o = (λ p. apart bending (one_ruling p (monotone u w r o)) tt t, ((record { unit = unit_size u; width = w; rise = r }, tt), λ d. denied d refl o))
 
-  crooked : (verdict : Verdict) → T (not (bending (ruling_of verdict))) → (Monotone (unit s) h z m n → ⊥) → IsNot verdict s h z m n
-  crooked verdict t f = (λ p. apart bending (one_ruling (bent u w r f) p) tt t, ((unit_size u, (w, r)), λ d. f (told d refl)))
+  crooked : (verdict : Verdict) → T (not (bending (ruling_of (Ok verdict)))) → (Monotone (unit s) h z m n → ⊥) → IsNot verdict s h z m n
+  crooked verdict t f = (λ p. apart bending (one_ruling (bent u w r f) p) tt t, ((record { unit = unit_size u; width = w; rise = r }, tt), λ d. f (told d refl)))
 
 -- the line at 2Z for 3Z
 pub a_line_too_low : DoesNotBend 8 (pos 1) (pos 1) (pos 600) (pos 0)
@@ -96,43 +98,43 @@ pub a_unit_twice_as_large : IsNot Rising 1 (pos 1) (pos 1) (pos 6) (pos 7)
 a_unit_twice_as_large = crooked (record { high = lit≤ tt }) (within tt tt) (within tt tt) Rising tt (against_its_rise 1 2 tt tt tt tt)
 
 -- a unit above 8 taken for 8, or asked after the width; or another number for it
-pub a_unit_above_8_taken : Judges 9 (pos 1) (pos 1) (pos 256) (pos 256) Rising → ⊥
+pub a_unit_above_8_taken : Judges 9 (pos 1) (pos 1) (pos 256) (pos 256) (Ok Rising) → ⊥
 a_unit_above_8_taken p = omega (arith, ap number_of (one_ruling p (unit_refused (above_8 tt))))
 
-pub a_width_asked_before_the_unit : Judges 4294967295 (pos 0) (pos 1) (pos 256) (pos 256) (Refused (record { number = 3; place = 0 })) → ⊥
+pub a_width_asked_before_the_unit : Judges 4294967295 (pos 0) (pos 1) (pos 256) (pos 256) (Err (at_place_0 Width)) → ⊥
 a_width_asked_before_the_unit p = omega (arith, ap number_of (one_ruling p (unit_refused (above_8 tt))))
 
-pub a_unit_refused_by_3 : Judges 9 (pos 1) (pos 1) (pos 256) (pos 256) (Refused (record { number = 3; place = 0 })) → ⊥
+pub a_unit_refused_by_3 : Judges 9 (pos 1) (pos 1) (pos 256) (pos 256) (Err (at_place_0 Width)) → ⊥
 a_unit_refused_by_3 p = omega (arith, ap number_of (one_ruling p (unit_refused (above_8 tt))))
 
 -- 8 and 0 refused
-pub the_finest_unit_refused : Judges 8 (pos 1) (pos 1) (pos 256) (pos 256) (Refused (record { number = 12; place = 0 })) → ⊥
+pub the_finest_unit_refused : Judges 8 (pos 1) (pos 1) (pos 256) (pos 256) (Err (at_place_0 SlopeUnit)) → ⊥
 the_finest_unit_refused p = omega (arith, ap number_of (one_ruling p (monotone eighth (within tt tt) (within tt tt) (below_the_line tt tt tt tt))))
 
-pub whole_slopes_refused : Judges 0 (pos 1) (pos 1) (pos 1) (pos 1) (Refused (record { number = 12; place = 0 })) → ⊥
+pub whole_slopes_refused : Judges 0 (pos 1) (pos 1) (pos 1) (pos 1) (Err (at_place_0 SlopeUnit)) → ⊥
 whole_slopes_refused p = omega (arith, ap number_of (one_ruling p (monotone (record { high = lit≤ tt }) (within tt tt) (within tt tt) (below_the_line tt tt tt tt))))
 
 -- ---- a wrong number
 
-pub a_width_refused_by_4 : Judges 8 (pos 0) (pos 1) (pos 256) (pos 256) (Refused (record { number = 4; place = 0 })) → ⊥
+pub a_width_refused_by_4 : Judges 8 (pos 0) (pos 1) (pos 256) (pos 256) (Err (at_place_0 Rise)) → ⊥
 a_width_refused_by_4 p = omega (arith, ap number_of (one_ruling p (width_refused eighth (λ w. w.low.le))))
 
 -- ---- a wrong cubic: the one of a piece of width 2 and rise 2 with slopes 256 and 256 is 512·t·h², as 3·512 − 2·512 − 512 and 512 + 512 − 2·512 are 0
 
 abbrev pub HasNot : (U h z m n first second third : ℤ) → Type 0
-HasNot U h z m n first second third = AskedCoefficients U h z m n × (HasCoefficients U h z m n first second third → ⊥)
+HasNot U h z m n first second third = (a : AskedCoefficients U h z m n) × (HasCoefficients U h z m n a first second third → ⊥)
 
 -- 2Z for 3Z
 pub another_square : HasNot (pos 256) (pos 2) (pos 2) (pos 256) (pos 256) (pos 512) (negsuc 511) (pos 0)
-another_square = ((within tt tt, (within tt tt, within tt tt)), λ c. numbers_differ tt c.second_is)
+another_square = ((record { unit = within tt tt; width = within tt tt; rise = within tt tt }, tt), λ c. numbers_differ tt c.second_is)
 
 -- 3Z for 2Z
 pub another_cube : HasNot (pos 256) (pos 2) (pos 2) (pos 256) (pos 256) (pos 512) (pos 0) (negsuc 511)
-another_cube = ((within tt tt, (within tt tt, within tt tt)), λ c. numbers_differ tt c.third_is)
+another_cube = ((record { unit = within tt tt; width = within tt tt; rise = within tt tt }, tt), λ c. numbers_differ tt c.third_is)
 
 -- 256 for the unit: of whole slopes 1 and 1 the piece of width 2 and rise 2 has 2·t·h² alone
 pub coefficients_in_256ths : HasNot (pos 1) (pos 2) (pos 2) (pos 1) (pos 1) (pos 2) (pos 1530) (negsuc 1019)
-coefficients_in_256ths = ((within tt tt, (within tt tt, within tt tt)), λ c. numbers_differ tt c.second_is)
+coefficients_in_256ths = ((record { unit = within tt tt; width = within tt tt; rise = within tt tt }, tt), λ c. numbers_differ tt c.second_is)
 
 -- ---- a wrong record for C
 

@@ -1,12 +1,14 @@
 -- Wrong programs with the replies of the workbench, each refuted by the line that it would put into an empty buffer for one reply. A comment has the text of that line, and why it is wrong.
-use Rattle.std.specs.Prelude.{ℕ, refl, true, false, List, [], ◌∷◌, ◌++◌, ℤ, pos, negsuc, Float, length}
-use Rattle.std.proofs.Common.{ap}
+use Rattle.std.specs.Prelude.{ℕ, refl, Bool, true, false, cond, T, eqb, ltb, Result, Ok, Err, List, [], ◌∷◌, ◌++◌, get_or, ℤ, pos, negsuc, Float, length}
+use Rattle.std.proofs.Common.{ap, sym, subst}
 use Rattle.std.specs.Float.{fin}
 use Rattle.decimals.specs.Text.{spelled}
 use Rattle.answers.specs.Filling.{filled}
 use Rattle.commands.specs.declared.Fault.TheVariants.{TooLong, NoCommand, TooFew, TooMany, NoList, NotDecimal, Beyond32, Beyond64, BeyondUnsigned}
-use Rattle.rules.specs.declared.Refusal.{Refusal}
-use Rattle.piece.specs.declared.Verdict.TheVariants.{Rising, Falling, Flat, Bends, Refused}
+use Rattle.rules.specs.declared.Refused.{Refused}
+use Rattle.rules.specs.declared.Cause.{Cause}
+use Rattle.rules.specs.declared.Cause.TheVariants as cause
+use Rattle.piece.specs.declared.Verdict.TheVariants.{Rising, Falling, Flat, Bends}
 use Rattle.drive.specs.declared.Answer.TheVariants.{Dwell, Move}
 use Rattle.replies.specs.declared.Reply.{Reply}
 use Rattle.replies.specs.declared.Reply.TheVariants.{Silent, Wrong, Done, Count, Judged, Valued, Driven, SlopeUnit}
@@ -30,20 +32,17 @@ abbrev writes : Reply → List ℕ → Type 0
 writes reply line = append (room line) 0 reply (line ++ (46 ∷ [])) (length line)
 
 -- what is answered where nothing is refused: that it is done, a value, a dwell and a move
-abbrev none : Refusal
-none = record { number = 0; place = 0 }
-
 abbrev is_done : Reply
-is_done = Done none
+is_done = Done (Ok tt)
 
 abbrev valued : ℤ → Reply
-valued v = Valued (record { refusal = none; value = v })
+valued v = Valued (Ok v)
 
 abbrev dwells : Float → Reply
-dwells level = Driven (record { refusal = none; answer = Dwell level })
+dwells level = Driven (Ok (Dwell level))
 
 abbrev moves : (left numerator denominator : Float) → Reply
-moves left numerator denominator = Driven (record { refusal = none; answer = Move (record { left = left; numerator = numerator; denominator = denominator }) })
+moves left numerator denominator = Driven (Ok (Move (record { left = left; numerator = numerator; denominator = denominator })))
 
 abbrev integers : List ℕ → List ℤ
 integers [] = []
@@ -163,73 +162,93 @@ beyond_64_told_as_unsigned p = lists_differ tt (ap integers p.buffer)
 
 -- ---- a refusal: its number, its place and the number's cause
 
+-- Whatever is refused is told by the number of a cause: its first digit is not 9 where a space is behind it, and else a `2` is. 9, 10, 11 and 99 are the numbers of no cause, so that
+-- no answer is refused by them; a line that tells one of them is told of no answer at all.
+abbrev of_a_cause : (digit next : ℕ) → Bool
+of_a_cause digit next = cond (eqb next 32) (ltb digit 57) (eqb next 50)
+
+abbrev so_told : List ℕ → Bool
+so_told line = of_a_cause (get_or line 8 0) (get_or line 9 0)
+
+by_its_number : (c : Cause) (place : ℕ) {digit next : ℕ} {room more : List ℕ} {r : ℕ} → append (46 ∷ 46 ∷ 46 ∷ 46 ∷ 46 ∷ 46 ∷ 46 ∷ 46 ∷ 46 ∷ 46 ∷ room) 0 (Done (Err (record { cause = c; place = place }))) (114 ∷ 101 ∷ 102 ∷ 117 ∷ 115 ∷ 101 ∷ 100 ∷ 32 ∷ digit ∷ next ∷ more) r → T (of_a_cause digit next)
+unfolding line_of filled spelled
+by_its_number cause.Lengths place p = subst (λ (line : List ℕ). T (so_told line)) (sym p.buffer) tt
+by_its_number cause.Count place p = subst (λ (line : List ℕ). T (so_told line)) (sym p.buffer) tt
+by_its_number cause.Width place p = subst (λ (line : List ℕ). T (so_told line)) (sym p.buffer) tt
+by_its_number cause.Rise place p = subst (λ (line : List ℕ). T (so_told line)) (sym p.buffer) tt
+by_its_number cause.Bend place p = subst (λ (line : List ℕ). T (so_told line)) (sym p.buffer) tt
+by_its_number cause.Position place p = subst (λ (line : List ℕ). T (so_told line)) (sym p.buffer) tt
+by_its_number cause.Point place p = subst (λ (line : List ℕ). T (so_told line)) (sym p.buffer) tt
+by_its_number cause.Size place p = subst (λ (line : List ℕ). T (so_told line)) (sym p.buffer) tt
+by_its_number cause.SlopeUnit place p = subst (λ (line : List ℕ). T (so_told line)) (sym p.buffer) tt
+
+by_a_cause : (d : Result Unit Refused) {digit next : ℕ} {room more : List ℕ} {r : ℕ} → append (46 ∷ 46 ∷ 46 ∷ 46 ∷ 46 ∷ 46 ∷ 46 ∷ 46 ∷ 46 ∷ 46 ∷ room) 0 (Done d) (114 ∷ 101 ∷ 102 ∷ 117 ∷ 115 ∷ 101 ∷ 100 ∷ 32 ∷ digit ∷ next ∷ more) r → T (of_a_cause digit next)
+unfolding line_of filled
+by_a_cause (Ok done) p = absurd (lists_differ tt (ap integers p.buffer))
+by_a_cause (Err r) p = by_its_number r.cause r.place p
+
 -- `refused 3 at 2: a rise is outside its limits`: 3 is a width
-pub cause_of_another_number : writes (Done (record { number = 3; place = 2 })) (114 ∷ 101 ∷ 102 ∷ 117 ∷ 115 ∷ 101 ∷ 100 ∷ 32 ∷ 51 ∷ 32 ∷ 97 ∷ 116 ∷ 32 ∷ 50 ∷ 58 ∷ 32 ∷ 97 ∷ 32 ∷ 114 ∷ 105 ∷ 115 ∷ 101 ∷ 32 ∷ 105 ∷ 115 ∷ 32 ∷ 111 ∷ 117 ∷ 116 ∷ 115 ∷ 105 ∷ 100 ∷ 101 ∷ 32 ∷ 105 ∷ 116 ∷ 115 ∷ 32 ∷ 108 ∷ 105 ∷ 109 ∷ 105 ∷ 116 ∷ 115 ∷ 10 ∷ []) → ⊥
+pub cause_of_another_number : writes (Done (Err (record { cause = cause.Width; place = 2 }))) (114 ∷ 101 ∷ 102 ∷ 117 ∷ 115 ∷ 101 ∷ 100 ∷ 32 ∷ 51 ∷ 32 ∷ 97 ∷ 116 ∷ 32 ∷ 50 ∷ 58 ∷ 32 ∷ 97 ∷ 32 ∷ 114 ∷ 105 ∷ 115 ∷ 101 ∷ 32 ∷ 105 ∷ 115 ∷ 32 ∷ 111 ∷ 117 ∷ 116 ∷ 115 ∷ 105 ∷ 100 ∷ 101 ∷ 32 ∷ 105 ∷ 116 ∷ 115 ∷ 32 ∷ 108 ∷ 105 ∷ 109 ∷ 105 ∷ 116 ∷ 115 ∷ 10 ∷ []) → ⊥
 unfolding line_of fault_line filled spelled
 cause_of_another_number p = lists_differ tt (ap integers p.buffer)
 
 -- `refused 2 at 3: a width is not in 1 to 1024`: 3 at 2
-pub place_and_number_exchanged : writes (Done (record { number = 3; place = 2 })) (114 ∷ 101 ∷ 102 ∷ 117 ∷ 115 ∷ 101 ∷ 100 ∷ 32 ∷ 50 ∷ 32 ∷ 97 ∷ 116 ∷ 32 ∷ 51 ∷ 58 ∷ 32 ∷ 97 ∷ 32 ∷ 119 ∷ 105 ∷ 100 ∷ 116 ∷ 104 ∷ 32 ∷ 105 ∷ 115 ∷ 32 ∷ 110 ∷ 111 ∷ 116 ∷ 32 ∷ 105 ∷ 110 ∷ 32 ∷ 49 ∷ 32 ∷ 116 ∷ 111 ∷ 32 ∷ 49 ∷ 48 ∷ 50 ∷ 52 ∷ 10 ∷ []) → ⊥
+pub place_and_number_exchanged : writes (Done (Err (record { cause = cause.Width; place = 2 }))) (114 ∷ 101 ∷ 102 ∷ 117 ∷ 115 ∷ 101 ∷ 100 ∷ 32 ∷ 50 ∷ 32 ∷ 97 ∷ 116 ∷ 32 ∷ 51 ∷ 58 ∷ 32 ∷ 97 ∷ 32 ∷ 119 ∷ 105 ∷ 100 ∷ 116 ∷ 104 ∷ 32 ∷ 105 ∷ 115 ∷ 32 ∷ 110 ∷ 111 ∷ 116 ∷ 32 ∷ 105 ∷ 110 ∷ 32 ∷ 49 ∷ 32 ∷ 116 ∷ 111 ∷ 32 ∷ 49 ∷ 48 ∷ 50 ∷ 52 ∷ 10 ∷ []) → ⊥
 unfolding line_of fault_line filled spelled
 place_and_number_exchanged p = lists_differ tt (ap integers p.buffer)
 
 -- `refused 3 at 2: `: 3 has a cause
-pub refused_without_a_cause : writes (Done (record { number = 3; place = 2 })) (114 ∷ 101 ∷ 102 ∷ 117 ∷ 115 ∷ 101 ∷ 100 ∷ 32 ∷ 51 ∷ 32 ∷ 97 ∷ 116 ∷ 32 ∷ 50 ∷ 58 ∷ 32 ∷ 10 ∷ []) → ⊥
+pub refused_without_a_cause : writes (Done (Err (record { cause = cause.Width; place = 2 }))) (114 ∷ 101 ∷ 102 ∷ 117 ∷ 115 ∷ 101 ∷ 100 ∷ 32 ∷ 51 ∷ 32 ∷ 97 ∷ 116 ∷ 32 ∷ 50 ∷ 58 ∷ 32 ∷ 10 ∷ []) → ⊥
 unfolding line_of fault_line filled spelled
 refused_without_a_cause p = lists_differ tt (ap integers p.buffer)
 
 -- `refused 3: a width is not in 1 to 1024`: it has a place
-pub refused_without_its_place : writes (Done (record { number = 3; place = 2 })) (114 ∷ 101 ∷ 102 ∷ 117 ∷ 115 ∷ 101 ∷ 100 ∷ 32 ∷ 51 ∷ 58 ∷ 32 ∷ 97 ∷ 32 ∷ 119 ∷ 105 ∷ 100 ∷ 116 ∷ 104 ∷ 32 ∷ 105 ∷ 115 ∷ 32 ∷ 110 ∷ 111 ∷ 116 ∷ 32 ∷ 105 ∷ 110 ∷ 32 ∷ 49 ∷ 32 ∷ 116 ∷ 111 ∷ 32 ∷ 49 ∷ 48 ∷ 50 ∷ 52 ∷ 10 ∷ []) → ⊥
+pub refused_without_its_place : writes (Done (Err (record { cause = cause.Width; place = 2 }))) (114 ∷ 101 ∷ 102 ∷ 117 ∷ 115 ∷ 101 ∷ 100 ∷ 32 ∷ 51 ∷ 58 ∷ 32 ∷ 97 ∷ 32 ∷ 119 ∷ 105 ∷ 100 ∷ 116 ∷ 104 ∷ 32 ∷ 105 ∷ 115 ∷ 32 ∷ 110 ∷ 111 ∷ 116 ∷ 32 ∷ 105 ∷ 110 ∷ 32 ∷ 49 ∷ 32 ∷ 116 ∷ 111 ∷ 32 ∷ 49 ∷ 48 ∷ 50 ∷ 52 ∷ 10 ∷ []) → ⊥
 unfolding line_of fault_line filled spelled
 refused_without_its_place p = lists_differ tt (ap integers p.buffer)
 
 -- `refused 1 at 0: fewer than 2 or more than 1024 points`: 1 is the lengths
-pub causes_counted_from_0 : writes (Done (record { number = 1; place = 0 })) (114 ∷ 101 ∷ 102 ∷ 117 ∷ 115 ∷ 101 ∷ 100 ∷ 32 ∷ 49 ∷ 32 ∷ 97 ∷ 116 ∷ 32 ∷ 48 ∷ 58 ∷ 32 ∷ 102 ∷ 101 ∷ 119 ∷ 101 ∷ 114 ∷ 32 ∷ 116 ∷ 104 ∷ 97 ∷ 110 ∷ 32 ∷ 50 ∷ 32 ∷ 111 ∷ 114 ∷ 32 ∷ 109 ∷ 111 ∷ 114 ∷ 101 ∷ 32 ∷ 116 ∷ 104 ∷ 97 ∷ 110 ∷ 32 ∷ 49 ∷ 48 ∷ 50 ∷ 52 ∷ 32 ∷ 112 ∷ 111 ∷ 105 ∷ 110 ∷ 116 ∷ 115 ∷ 10 ∷ []) → ⊥
+pub causes_counted_from_0 : writes (Done (Err (record { cause = cause.Lengths; place = 0 }))) (114 ∷ 101 ∷ 102 ∷ 117 ∷ 115 ∷ 101 ∷ 100 ∷ 32 ∷ 49 ∷ 32 ∷ 97 ∷ 116 ∷ 32 ∷ 48 ∷ 58 ∷ 32 ∷ 102 ∷ 101 ∷ 119 ∷ 101 ∷ 114 ∷ 32 ∷ 116 ∷ 104 ∷ 97 ∷ 110 ∷ 32 ∷ 50 ∷ 32 ∷ 111 ∷ 114 ∷ 32 ∷ 109 ∷ 111 ∷ 114 ∷ 101 ∷ 32 ∷ 116 ∷ 104 ∷ 97 ∷ 110 ∷ 32 ∷ 49 ∷ 48 ∷ 50 ∷ 52 ∷ 32 ∷ 112 ∷ 111 ∷ 105 ∷ 110 ∷ 116 ∷ 115 ∷ 10 ∷ []) → ⊥
 unfolding line_of fault_line filled spelled
 causes_counted_from_0 p = lists_differ tt (ap integers p.buffer)
 
 -- `refused 99 at 0: the slope unit is not in 0 to 8`: 99 has no cause
-pub no_cause_told_as_the_last : writes (Done (record { number = 99; place = 0 })) (114 ∷ 101 ∷ 102 ∷ 117 ∷ 115 ∷ 101 ∷ 100 ∷ 32 ∷ 57 ∷ 57 ∷ 32 ∷ 97 ∷ 116 ∷ 32 ∷ 48 ∷ 58 ∷ 32 ∷ 116 ∷ 104 ∷ 101 ∷ 32 ∷ 115 ∷ 108 ∷ 111 ∷ 112 ∷ 101 ∷ 32 ∷ 117 ∷ 110 ∷ 105 ∷ 116 ∷ 32 ∷ 105 ∷ 115 ∷ 32 ∷ 110 ∷ 111 ∷ 116 ∷ 32 ∷ 105 ∷ 110 ∷ 32 ∷ 48 ∷ 32 ∷ 116 ∷ 111 ∷ 32 ∷ 56 ∷ 10 ∷ []) → ⊥
-unfolding line_of fault_line filled spelled
-no_cause_told_as_the_last p = lists_differ tt (ap integers p.buffer)
+pub no_cause_told_as_the_last : (d : Result Unit Refused) → writes (Done d) (114 ∷ 101 ∷ 102 ∷ 117 ∷ 115 ∷ 101 ∷ 100 ∷ 32 ∷ 57 ∷ 57 ∷ 32 ∷ 97 ∷ 116 ∷ 32 ∷ 48 ∷ 58 ∷ 32 ∷ 116 ∷ 104 ∷ 101 ∷ 32 ∷ 115 ∷ 108 ∷ 111 ∷ 112 ∷ 101 ∷ 32 ∷ 117 ∷ 110 ∷ 105 ∷ 116 ∷ 32 ∷ 105 ∷ 115 ∷ 32 ∷ 110 ∷ 111 ∷ 116 ∷ 32 ∷ 105 ∷ 110 ∷ 32 ∷ 48 ∷ 32 ∷ 116 ∷ 111 ∷ 32 ∷ 56 ∷ 10 ∷ []) → ⊥
+no_cause_told_as_the_last d p = by_a_cause d p
 
 -- `refused 12 at 0: `: 12 has a cause
-pub unit_refused_without_a_cause : writes (Done (record { number = 12; place = 0 })) (114 ∷ 101 ∷ 102 ∷ 117 ∷ 115 ∷ 101 ∷ 100 ∷ 32 ∷ 49 ∷ 50 ∷ 32 ∷ 97 ∷ 116 ∷ 32 ∷ 48 ∷ 58 ∷ 32 ∷ 10 ∷ []) → ⊥
+pub unit_refused_without_a_cause : writes (Done (Err (record { cause = cause.SlopeUnit; place = 0 }))) (114 ∷ 101 ∷ 102 ∷ 117 ∷ 115 ∷ 101 ∷ 100 ∷ 32 ∷ 49 ∷ 50 ∷ 32 ∷ 97 ∷ 116 ∷ 32 ∷ 48 ∷ 58 ∷ 32 ∷ 10 ∷ []) → ⊥
 unfolding line_of fault_line filled spelled
 unit_refused_without_a_cause p = lists_differ tt (ap integers p.buffer)
 
 -- `refused 12 at 0: piece too large for the exact float answer`: and that of 8 is another
-pub unit_told_as_a_size : writes (Done (record { number = 12; place = 0 })) (114 ∷ 101 ∷ 102 ∷ 117 ∷ 115 ∷ 101 ∷ 100 ∷ 32 ∷ 49 ∷ 50 ∷ 32 ∷ 97 ∷ 116 ∷ 32 ∷ 48 ∷ 58 ∷ 32 ∷ 112 ∷ 105 ∷ 101 ∷ 99 ∷ 101 ∷ 32 ∷ 116 ∷ 111 ∷ 111 ∷ 32 ∷ 108 ∷ 97 ∷ 114 ∷ 103 ∷ 101 ∷ 32 ∷ 102 ∷ 111 ∷ 114 ∷ 32 ∷ 116 ∷ 104 ∷ 101 ∷ 32 ∷ 101 ∷ 120 ∷ 97 ∷ 99 ∷ 116 ∷ 32 ∷ 102 ∷ 108 ∷ 111 ∷ 97 ∷ 116 ∷ 32 ∷ 97 ∷ 110 ∷ 115 ∷ 119 ∷ 101 ∷ 114 ∷ 10 ∷ []) → ⊥
+pub unit_told_as_a_size : writes (Done (Err (record { cause = cause.SlopeUnit; place = 0 }))) (114 ∷ 101 ∷ 102 ∷ 117 ∷ 115 ∷ 101 ∷ 100 ∷ 32 ∷ 49 ∷ 50 ∷ 32 ∷ 97 ∷ 116 ∷ 32 ∷ 48 ∷ 58 ∷ 32 ∷ 112 ∷ 105 ∷ 101 ∷ 99 ∷ 101 ∷ 32 ∷ 116 ∷ 111 ∷ 111 ∷ 32 ∷ 108 ∷ 97 ∷ 114 ∷ 103 ∷ 101 ∷ 32 ∷ 102 ∷ 111 ∷ 114 ∷ 32 ∷ 116 ∷ 104 ∷ 101 ∷ 32 ∷ 101 ∷ 120 ∷ 97 ∷ 99 ∷ 116 ∷ 32 ∷ 102 ∷ 108 ∷ 111 ∷ 97 ∷ 116 ∷ 32 ∷ 97 ∷ 110 ∷ 115 ∷ 119 ∷ 101 ∷ 114 ∷ 10 ∷ []) → ⊥
 unfolding line_of fault_line filled spelled
 unit_told_as_a_size p = lists_differ tt (ap integers p.buffer)
 
--- `refused 9 at 0: the slope unit is not in 0 to 8`: 9 has no cause, and yet is counted
-pub empty_causes_passed_over : writes (Done (record { number = 9; place = 0 })) (114 ∷ 101 ∷ 102 ∷ 117 ∷ 115 ∷ 101 ∷ 100 ∷ 32 ∷ 57 ∷ 32 ∷ 97 ∷ 116 ∷ 32 ∷ 48 ∷ 58 ∷ 32 ∷ 116 ∷ 104 ∷ 101 ∷ 32 ∷ 115 ∷ 108 ∷ 111 ∷ 112 ∷ 101 ∷ 32 ∷ 117 ∷ 110 ∷ 105 ∷ 116 ∷ 32 ∷ 105 ∷ 115 ∷ 32 ∷ 110 ∷ 111 ∷ 116 ∷ 32 ∷ 105 ∷ 110 ∷ 32 ∷ 48 ∷ 32 ∷ 116 ∷ 111 ∷ 32 ∷ 56 ∷ 10 ∷ []) → ⊥
-unfolding line_of fault_line filled spelled
-empty_causes_passed_over p = lists_differ tt (ap integers p.buffer)
+-- `refused 9 at 0: the slope unit is not in 0 to 8`: 9 has no cause, and yet is counted: its place is not taken by 12
+pub empty_causes_passed_over : (d : Result Unit Refused) → writes (Done d) (114 ∷ 101 ∷ 102 ∷ 117 ∷ 115 ∷ 101 ∷ 100 ∷ 32 ∷ 57 ∷ 32 ∷ 97 ∷ 116 ∷ 32 ∷ 48 ∷ 58 ∷ 32 ∷ 116 ∷ 104 ∷ 101 ∷ 32 ∷ 115 ∷ 108 ∷ 111 ∷ 112 ∷ 101 ∷ 32 ∷ 117 ∷ 110 ∷ 105 ∷ 116 ∷ 32 ∷ 105 ∷ 115 ∷ 32 ∷ 110 ∷ 111 ∷ 116 ∷ 32 ∷ 105 ∷ 110 ∷ 32 ∷ 48 ∷ 32 ∷ 116 ∷ 111 ∷ 32 ∷ 56 ∷ 10 ∷ []) → ⊥
+empty_causes_passed_over d p = by_a_cause d p
 
 -- `refused 10 at 0: the slope unit is not in 0 to 8`: nor has 10
-pub cause_of_12_for_10 : writes (Done (record { number = 10; place = 0 })) (114 ∷ 101 ∷ 102 ∷ 117 ∷ 115 ∷ 101 ∷ 100 ∷ 32 ∷ 49 ∷ 48 ∷ 32 ∷ 97 ∷ 116 ∷ 32 ∷ 48 ∷ 58 ∷ 32 ∷ 116 ∷ 104 ∷ 101 ∷ 32 ∷ 115 ∷ 108 ∷ 111 ∷ 112 ∷ 101 ∷ 32 ∷ 117 ∷ 110 ∷ 105 ∷ 116 ∷ 32 ∷ 105 ∷ 115 ∷ 32 ∷ 110 ∷ 111 ∷ 116 ∷ 32 ∷ 105 ∷ 110 ∷ 32 ∷ 48 ∷ 32 ∷ 116 ∷ 111 ∷ 32 ∷ 56 ∷ 10 ∷ []) → ⊥
-unfolding line_of fault_line filled spelled
-cause_of_12_for_10 p = lists_differ tt (ap integers p.buffer)
+pub cause_of_12_for_10 : (d : Result Unit Refused) → writes (Done d) (114 ∷ 101 ∷ 102 ∷ 117 ∷ 115 ∷ 101 ∷ 100 ∷ 32 ∷ 49 ∷ 48 ∷ 32 ∷ 97 ∷ 116 ∷ 32 ∷ 48 ∷ 58 ∷ 32 ∷ 116 ∷ 104 ∷ 101 ∷ 32 ∷ 115 ∷ 108 ∷ 111 ∷ 112 ∷ 101 ∷ 32 ∷ 117 ∷ 110 ∷ 105 ∷ 116 ∷ 32 ∷ 105 ∷ 115 ∷ 32 ∷ 110 ∷ 111 ∷ 116 ∷ 32 ∷ 105 ∷ 110 ∷ 32 ∷ 48 ∷ 32 ∷ 116 ∷ 111 ∷ 32 ∷ 56 ∷ 10 ∷ []) → ⊥
+cause_of_12_for_10 d p = by_a_cause d p
 
 -- `refused 11 at 0: the slope unit is not in 0 to 8`: nor 11
-pub cause_of_12_for_11 : writes (Done (record { number = 11; place = 0 })) (114 ∷ 101 ∷ 102 ∷ 117 ∷ 115 ∷ 101 ∷ 100 ∷ 32 ∷ 49 ∷ 49 ∷ 32 ∷ 97 ∷ 116 ∷ 32 ∷ 48 ∷ 58 ∷ 32 ∷ 116 ∷ 104 ∷ 101 ∷ 32 ∷ 115 ∷ 108 ∷ 111 ∷ 112 ∷ 101 ∷ 32 ∷ 117 ∷ 110 ∷ 105 ∷ 116 ∷ 32 ∷ 105 ∷ 115 ∷ 32 ∷ 110 ∷ 111 ∷ 116 ∷ 32 ∷ 105 ∷ 110 ∷ 32 ∷ 48 ∷ 32 ∷ 116 ∷ 111 ∷ 32 ∷ 56 ∷ 10 ∷ []) → ⊥
-unfolding line_of fault_line filled spelled
-cause_of_12_for_11 p = lists_differ tt (ap integers p.buffer)
+pub cause_of_12_for_11 : (d : Result Unit Refused) → writes (Done d) (114 ∷ 101 ∷ 102 ∷ 117 ∷ 115 ∷ 101 ∷ 100 ∷ 32 ∷ 49 ∷ 49 ∷ 32 ∷ 97 ∷ 116 ∷ 32 ∷ 48 ∷ 58 ∷ 32 ∷ 116 ∷ 104 ∷ 101 ∷ 32 ∷ 115 ∷ 108 ∷ 111 ∷ 112 ∷ 101 ∷ 32 ∷ 117 ∷ 110 ∷ 105 ∷ 116 ∷ 32 ∷ 105 ∷ 115 ∷ 32 ∷ 110 ∷ 111 ∷ 116 ∷ 32 ∷ 105 ∷ 110 ∷ 32 ∷ 48 ∷ 32 ∷ 116 ∷ 111 ∷ 32 ∷ 56 ∷ 10 ∷ []) → ⊥
+cause_of_12_for_11 d p = by_a_cause d p
 
 -- `refused 9 at 0: piece too large for the exact float answer`: it does not keep the one before it
-pub cause_of_8_for_9 : writes (Done (record { number = 9; place = 0 })) (114 ∷ 101 ∷ 102 ∷ 117 ∷ 115 ∷ 101 ∷ 100 ∷ 32 ∷ 57 ∷ 32 ∷ 97 ∷ 116 ∷ 32 ∷ 48 ∷ 58 ∷ 32 ∷ 112 ∷ 105 ∷ 101 ∷ 99 ∷ 101 ∷ 32 ∷ 116 ∷ 111 ∷ 111 ∷ 32 ∷ 108 ∷ 97 ∷ 114 ∷ 103 ∷ 101 ∷ 32 ∷ 102 ∷ 111 ∷ 114 ∷ 32 ∷ 116 ∷ 104 ∷ 101 ∷ 32 ∷ 101 ∷ 120 ∷ 97 ∷ 99 ∷ 116 ∷ 32 ∷ 102 ∷ 108 ∷ 111 ∷ 97 ∷ 116 ∷ 32 ∷ 97 ∷ 110 ∷ 115 ∷ 119 ∷ 101 ∷ 114 ∷ 10 ∷ []) → ⊥
-unfolding line_of fault_line filled spelled
-cause_of_8_for_9 p = lists_differ tt (ap integers p.buffer)
+pub cause_of_8_for_9 : (d : Result Unit Refused) → writes (Done d) (114 ∷ 101 ∷ 102 ∷ 117 ∷ 115 ∷ 101 ∷ 100 ∷ 32 ∷ 57 ∷ 32 ∷ 97 ∷ 116 ∷ 32 ∷ 48 ∷ 58 ∷ 32 ∷ 112 ∷ 105 ∷ 101 ∷ 99 ∷ 101 ∷ 32 ∷ 116 ∷ 111 ∷ 111 ∷ 32 ∷ 108 ∷ 97 ∷ 114 ∷ 103 ∷ 101 ∷ 32 ∷ 102 ∷ 111 ∷ 114 ∷ 32 ∷ 116 ∷ 104 ∷ 101 ∷ 32 ∷ 101 ∷ 120 ∷ 97 ∷ 99 ∷ 116 ∷ 32 ∷ 102 ∷ 108 ∷ 111 ∷ 97 ∷ 116 ∷ 32 ∷ 97 ∷ 110 ∷ 115 ∷ 119 ∷ 101 ∷ 114 ∷ 10 ∷ []) → ⊥
+cause_of_8_for_9 d p = by_a_cause d p
 
 -- `ok`: it is not done
-pub refused_told_as_done : writes (Done (record { number = 3; place = 2 })) (111 ∷ 107 ∷ 10 ∷ []) → ⊥
+pub refused_told_as_done : writes (Done (Err (record { cause = cause.Width; place = 2 }))) (111 ∷ 107 ∷ 10 ∷ []) → ⊥
 unfolding line_of fault_line filled spelled
 refused_told_as_done p = lists_differ tt (ap integers p.buffer)
 
 -- nothing: it is told
-pub refused_and_nothing_told : writes (Done (record { number = 3; place = 2 })) [] → ⊥
+pub refused_and_nothing_told : writes (Done (Err (record { cause = cause.Width; place = 2 }))) [] → ⊥
 unfolding line_of fault_line filled spelled
 refused_and_nothing_told p = lists_differ tt (ap integers p.buffer)
 
@@ -251,59 +270,59 @@ unfolding line_of fault_line filled spelled
 another_count p = lists_differ tt (ap integers p.buffer)
 
 -- `falling`: it rises
-pub rising_told_as_falling : writes (Judged Rising) (102 ∷ 97 ∷ 108 ∷ 108 ∷ 105 ∷ 110 ∷ 103 ∷ 10 ∷ []) → ⊥
+pub rising_told_as_falling : writes (Judged (Ok Rising)) (102 ∷ 97 ∷ 108 ∷ 108 ∷ 105 ∷ 110 ∷ 103 ∷ 10 ∷ []) → ⊥
 unfolding line_of fault_line filled spelled
 rising_told_as_falling p = lists_differ tt (ap integers p.buffer)
 
 -- `rising`: it falls
-pub falling_told_as_rising : writes (Judged Falling) (114 ∷ 105 ∷ 115 ∷ 105 ∷ 110 ∷ 103 ∷ 10 ∷ []) → ⊥
+pub falling_told_as_rising : writes (Judged (Ok Falling)) (114 ∷ 105 ∷ 115 ∷ 105 ∷ 110 ∷ 103 ∷ 10 ∷ []) → ⊥
 unfolding line_of fault_line filled spelled
 falling_told_as_rising p = lists_differ tt (ap integers p.buffer)
 
 -- `rising`: it is flat
-pub flat_told_as_rising : writes (Judged Flat) (114 ∷ 105 ∷ 115 ∷ 105 ∷ 110 ∷ 103 ∷ 10 ∷ []) → ⊥
+pub flat_told_as_rising : writes (Judged (Ok Flat)) (114 ∷ 105 ∷ 115 ∷ 105 ∷ 110 ∷ 103 ∷ 10 ∷ []) → ⊥
 unfolding line_of fault_line filled spelled
 flat_told_as_rising p = lists_differ tt (ap integers p.buffer)
 
 -- `flat`: it bends
-pub bends_told_as_flat : writes (Judged Bends) (102 ∷ 108 ∷ 97 ∷ 116 ∷ 10 ∷ []) → ⊥
+pub bends_told_as_flat : writes (Judged (Ok Bends)) (102 ∷ 108 ∷ 97 ∷ 116 ∷ 10 ∷ []) → ⊥
 unfolding line_of fault_line filled spelled
 bends_told_as_flat p = lists_differ tt (ap integers p.buffer)
 
 -- ---- an answer that is refused, of each kind; and one that is not
 
 -- `ok`: the piece is refused
-pub refused_verdict_told_as_done : writes (Judged (Refused (record { number = 3; place = 0 }))) (111 ∷ 107 ∷ 10 ∷ []) → ⊥
+pub refused_verdict_told_as_done : writes (Judged (Err (record { cause = cause.Width; place = 0 }))) (111 ∷ 107 ∷ 10 ∷ []) → ⊥
 unfolding line_of fault_line filled spelled
 refused_verdict_told_as_done p = lists_differ tt (ap integers p.buffer)
 
 -- `bends`: a refused piece has no verdict
-pub refused_verdict_told_as_bends : writes (Judged (Refused (record { number = 3; place = 0 }))) (98 ∷ 101 ∷ 110 ∷ 100 ∷ 115 ∷ 10 ∷ []) → ⊥
+pub refused_verdict_told_as_bends : writes (Judged (Err (record { cause = cause.Width; place = 0 }))) (98 ∷ 101 ∷ 110 ∷ 100 ∷ 115 ∷ 10 ∷ []) → ⊥
 unfolding line_of fault_line filled spelled
 refused_verdict_told_as_bends p = lists_differ tt (ap integers p.buffer)
 
 -- `ok`: the position is refused
-pub refused_value_told_as_done : writes (Valued (record { refusal = record { number = 6; place = 0 }; value = pos 0 })) (111 ∷ 107 ∷ 10 ∷ []) → ⊥
+pub refused_value_told_as_done : writes (Valued (Err (record { cause = cause.Position; place = 0 }))) (111 ∷ 107 ∷ 10 ∷ []) → ⊥
 unfolding line_of fault_line filled spelled
 refused_value_told_as_done p = lists_differ tt (ap integers p.buffer)
 
 -- `0`: there is no value
-pub value_for_a_refusal : writes (Valued (record { refusal = record { number = 6; place = 0 }; value = pos 0 })) (48 ∷ 10 ∷ []) → ⊥
+pub value_for_a_refusal : writes (Valued (Err (record { cause = cause.Position; place = 0 }))) (48 ∷ 10 ∷ []) → ⊥
 unfolding line_of fault_line filled spelled
 value_for_a_refusal p = lists_differ tt (ap integers p.buffer)
 
 -- `ok`: the piece is too large
-pub refused_drive_told_as_done : writes (Driven (record { refusal = record { number = 8; place = 7 }; answer = Dwell (fin false 0 (pos 0)) })) (111 ∷ 107 ∷ 10 ∷ []) → ⊥
+pub refused_drive_told_as_done : writes (Driven (Err (record { cause = cause.Size; place = 7 }))) (111 ∷ 107 ∷ 10 ∷ []) → ⊥
 unfolding line_of fault_line filled spelled
 refused_drive_told_as_done p = lists_differ tt (ap integers p.buffer)
 
 -- `dwell 0`: a refused answer's level says nothing
-pub dwell_for_a_refusal : writes (Driven (record { refusal = record { number = 8; place = 7 }; answer = Dwell (fin false 0 (pos 0)) })) (100 ∷ 119 ∷ 101 ∷ 108 ∷ 108 ∷ 32 ∷ 48 ∷ 10 ∷ []) → ⊥
+pub dwell_for_a_refusal : writes (Driven (Err (record { cause = cause.Size; place = 7 }))) (100 ∷ 119 ∷ 101 ∷ 108 ∷ 108 ∷ 32 ∷ 48 ∷ 10 ∷ []) → ⊥
 unfolding line_of float_as filled spelled
 dwell_for_a_refusal p = lists_differ tt (ap integers p.buffer)
 
 -- `refused 8 at 0: ..`: piece 7
-pub refused_drive_without_its_place : writes (Driven (record { refusal = record { number = 8; place = 7 }; answer = Dwell (fin false 0 (pos 0)) })) (114 ∷ 101 ∷ 102 ∷ 117 ∷ 115 ∷ 101 ∷ 100 ∷ 32 ∷ 56 ∷ 32 ∷ 97 ∷ 116 ∷ 32 ∷ 48 ∷ 58 ∷ 32 ∷ 112 ∷ 105 ∷ 101 ∷ 99 ∷ 101 ∷ 32 ∷ 116 ∷ 111 ∷ 111 ∷ 32 ∷ 108 ∷ 97 ∷ 114 ∷ 103 ∷ 101 ∷ 32 ∷ 102 ∷ 111 ∷ 114 ∷ 32 ∷ 116 ∷ 104 ∷ 101 ∷ 32 ∷ 101 ∷ 120 ∷ 97 ∷ 99 ∷ 116 ∷ 32 ∷ 102 ∷ 108 ∷ 111 ∷ 97 ∷ 116 ∷ 32 ∷ 97 ∷ 110 ∷ 115 ∷ 119 ∷ 101 ∷ 114 ∷ 10 ∷ []) → ⊥
+pub refused_drive_without_its_place : writes (Driven (Err (record { cause = cause.Size; place = 7 }))) (114 ∷ 101 ∷ 102 ∷ 117 ∷ 115 ∷ 101 ∷ 100 ∷ 32 ∷ 56 ∷ 32 ∷ 97 ∷ 116 ∷ 32 ∷ 48 ∷ 58 ∷ 32 ∷ 112 ∷ 105 ∷ 101 ∷ 99 ∷ 101 ∷ 32 ∷ 116 ∷ 111 ∷ 111 ∷ 32 ∷ 108 ∷ 97 ∷ 114 ∷ 103 ∷ 101 ∷ 32 ∷ 102 ∷ 111 ∷ 114 ∷ 32 ∷ 116 ∷ 104 ∷ 101 ∷ 32 ∷ 101 ∷ 120 ∷ 97 ∷ 99 ∷ 116 ∷ 32 ∷ 102 ∷ 108 ∷ 111 ∷ 97 ∷ 116 ∷ 32 ∷ 97 ∷ 110 ∷ 115 ∷ 119 ∷ 101 ∷ 114 ∷ 10 ∷ []) → ⊥
 unfolding line_of fault_line filled spelled
 refused_drive_without_its_place p = lists_differ tt (ap integers p.buffer)
 
@@ -485,31 +504,31 @@ pub record RightReplies : Type 0 where
   -- `? line 12: number 1 is not in 0 to 4294967295`
   pub beyond_unsigned : writes (Wrong 12 (BeyondUnsigned 1)) (63 ∷ 32 ∷ 108 ∷ 105 ∷ 110 ∷ 101 ∷ 32 ∷ 49 ∷ 50 ∷ 58 ∷ 32 ∷ 110 ∷ 117 ∷ 109 ∷ 98 ∷ 101 ∷ 114 ∷ 32 ∷ 49 ∷ 32 ∷ 105 ∷ 115 ∷ 32 ∷ 110 ∷ 111 ∷ 116 ∷ 32 ∷ 105 ∷ 110 ∷ 32 ∷ 48 ∷ 32 ∷ 116 ∷ 111 ∷ 32 ∷ 52 ∷ 50 ∷ 57 ∷ 52 ∷ 57 ∷ 54 ∷ 55 ∷ 50 ∷ 57 ∷ 53 ∷ 10 ∷ [])
   -- `refused 3 at 2: a width is not in 1 to 1024`
-  pub refused : writes (Done (record { number = 3; place = 2 })) (114 ∷ 101 ∷ 102 ∷ 117 ∷ 115 ∷ 101 ∷ 100 ∷ 32 ∷ 51 ∷ 32 ∷ 97 ∷ 116 ∷ 32 ∷ 50 ∷ 58 ∷ 32 ∷ 97 ∷ 32 ∷ 119 ∷ 105 ∷ 100 ∷ 116 ∷ 104 ∷ 32 ∷ 105 ∷ 115 ∷ 32 ∷ 110 ∷ 111 ∷ 116 ∷ 32 ∷ 105 ∷ 110 ∷ 32 ∷ 49 ∷ 32 ∷ 116 ∷ 111 ∷ 32 ∷ 49 ∷ 48 ∷ 50 ∷ 52 ∷ 10 ∷ [])
+  pub refused : writes (Done (Err (record { cause = cause.Width; place = 2 }))) (114 ∷ 101 ∷ 102 ∷ 117 ∷ 115 ∷ 101 ∷ 100 ∷ 32 ∷ 51 ∷ 32 ∷ 97 ∷ 116 ∷ 32 ∷ 50 ∷ 58 ∷ 32 ∷ 97 ∷ 32 ∷ 119 ∷ 105 ∷ 100 ∷ 116 ∷ 104 ∷ 32 ∷ 105 ∷ 115 ∷ 32 ∷ 110 ∷ 111 ∷ 116 ∷ 32 ∷ 105 ∷ 110 ∷ 32 ∷ 49 ∷ 32 ∷ 116 ∷ 111 ∷ 32 ∷ 49 ∷ 48 ∷ 50 ∷ 52 ∷ 10 ∷ [])
   -- `refused 12 at 0: the slope unit is not in 0 to 8`
-  pub unit_refused : writes (Done (record { number = 12; place = 0 })) (114 ∷ 101 ∷ 102 ∷ 117 ∷ 115 ∷ 101 ∷ 100 ∷ 32 ∷ 49 ∷ 50 ∷ 32 ∷ 97 ∷ 116 ∷ 32 ∷ 48 ∷ 58 ∷ 32 ∷ 116 ∷ 104 ∷ 101 ∷ 32 ∷ 115 ∷ 108 ∷ 111 ∷ 112 ∷ 101 ∷ 32 ∷ 117 ∷ 110 ∷ 105 ∷ 116 ∷ 32 ∷ 105 ∷ 115 ∷ 32 ∷ 110 ∷ 111 ∷ 116 ∷ 32 ∷ 105 ∷ 110 ∷ 32 ∷ 48 ∷ 32 ∷ 116 ∷ 111 ∷ 32 ∷ 56 ∷ 10 ∷ [])
-  -- `refused 9 at 0: `
-  pub no_cause_yet : writes (Done (record { number = 9; place = 0 })) (114 ∷ 101 ∷ 102 ∷ 117 ∷ 115 ∷ 101 ∷ 100 ∷ 32 ∷ 57 ∷ 32 ∷ 97 ∷ 116 ∷ 32 ∷ 48 ∷ 58 ∷ 32 ∷ 10 ∷ [])
-  -- `refused 99 at 0: `
-  pub no_cause : writes (Done (record { number = 99; place = 0 })) (114 ∷ 101 ∷ 102 ∷ 117 ∷ 115 ∷ 101 ∷ 100 ∷ 32 ∷ 57 ∷ 57 ∷ 32 ∷ 97 ∷ 116 ∷ 32 ∷ 48 ∷ 58 ∷ 32 ∷ 10 ∷ [])
+  pub unit_refused : writes (Done (Err (record { cause = cause.SlopeUnit; place = 0 }))) (114 ∷ 101 ∷ 102 ∷ 117 ∷ 115 ∷ 101 ∷ 100 ∷ 32 ∷ 49 ∷ 50 ∷ 32 ∷ 97 ∷ 116 ∷ 32 ∷ 48 ∷ 58 ∷ 32 ∷ 116 ∷ 104 ∷ 101 ∷ 32 ∷ 115 ∷ 108 ∷ 111 ∷ 112 ∷ 101 ∷ 32 ∷ 117 ∷ 110 ∷ 105 ∷ 116 ∷ 32 ∷ 105 ∷ 115 ∷ 32 ∷ 110 ∷ 111 ∷ 116 ∷ 32 ∷ 105 ∷ 110 ∷ 32 ∷ 48 ∷ 32 ∷ 116 ∷ 111 ∷ 32 ∷ 56 ∷ 10 ∷ [])
+  -- never `refused 9 at 0: `, as 9 has no cause
+  pub no_cause_yet : (d : Result Unit Refused) → writes (Done d) (114 ∷ 101 ∷ 102 ∷ 117 ∷ 115 ∷ 101 ∷ 100 ∷ 32 ∷ 57 ∷ 32 ∷ 97 ∷ 116 ∷ 32 ∷ 48 ∷ 58 ∷ 32 ∷ 10 ∷ []) → ⊥
+  -- never `refused 99 at 0: `, as 99 has no cause
+  pub no_cause : (d : Result Unit Refused) → writes (Done d) (114 ∷ 101 ∷ 102 ∷ 117 ∷ 115 ∷ 101 ∷ 100 ∷ 32 ∷ 57 ∷ 57 ∷ 32 ∷ 97 ∷ 116 ∷ 32 ∷ 48 ∷ 58 ∷ 32 ∷ 10 ∷ []) → ⊥
   -- `ok`
   pub done : writes is_done (111 ∷ 107 ∷ 10 ∷ [])
   -- `ok 4`
   pub count : writes (Count 4) (111 ∷ 107 ∷ 32 ∷ 52 ∷ 10 ∷ [])
   -- `falling`
-  pub falling : writes (Judged Falling) (102 ∷ 97 ∷ 108 ∷ 108 ∷ 105 ∷ 110 ∷ 103 ∷ 10 ∷ [])
+  pub falling : writes (Judged (Ok Falling)) (102 ∷ 97 ∷ 108 ∷ 108 ∷ 105 ∷ 110 ∷ 103 ∷ 10 ∷ [])
   -- `refused 3 at 0: a width is not in 1 to 1024`
-  pub verdict_refused : writes (Judged (Refused (record { number = 3; place = 0 }))) (114 ∷ 101 ∷ 102 ∷ 117 ∷ 115 ∷ 101 ∷ 100 ∷ 32 ∷ 51 ∷ 32 ∷ 97 ∷ 116 ∷ 32 ∷ 48 ∷ 58 ∷ 32 ∷ 97 ∷ 32 ∷ 119 ∷ 105 ∷ 100 ∷ 116 ∷ 104 ∷ 32 ∷ 105 ∷ 115 ∷ 32 ∷ 110 ∷ 111 ∷ 116 ∷ 32 ∷ 105 ∷ 110 ∷ 32 ∷ 49 ∷ 32 ∷ 116 ∷ 111 ∷ 32 ∷ 49 ∷ 48 ∷ 50 ∷ 52 ∷ 10 ∷ [])
+  pub verdict_refused : writes (Judged (Err (record { cause = cause.Width; place = 0 }))) (114 ∷ 101 ∷ 102 ∷ 117 ∷ 115 ∷ 101 ∷ 100 ∷ 32 ∷ 51 ∷ 32 ∷ 97 ∷ 116 ∷ 32 ∷ 48 ∷ 58 ∷ 32 ∷ 97 ∷ 32 ∷ 119 ∷ 105 ∷ 100 ∷ 116 ∷ 104 ∷ 32 ∷ 105 ∷ 115 ∷ 32 ∷ 110 ∷ 111 ∷ 116 ∷ 32 ∷ 105 ∷ 110 ∷ 32 ∷ 49 ∷ 32 ∷ 116 ∷ 111 ∷ 32 ∷ 49 ∷ 48 ∷ 50 ∷ 52 ∷ 10 ∷ [])
   -- `-7`
   pub value : writes (valued (negsuc 6)) (45 ∷ 55 ∷ 10 ∷ [])
   -- `refused 6 at 0: position before the first or after the last knot`
-  pub value_refused : writes (Valued (record { refusal = record { number = 6; place = 0 }; value = pos 0 })) (114 ∷ 101 ∷ 102 ∷ 117 ∷ 115 ∷ 101 ∷ 100 ∷ 32 ∷ 54 ∷ 32 ∷ 97 ∷ 116 ∷ 32 ∷ 48 ∷ 58 ∷ 32 ∷ 112 ∷ 111 ∷ 115 ∷ 105 ∷ 116 ∷ 105 ∷ 111 ∷ 110 ∷ 32 ∷ 98 ∷ 101 ∷ 102 ∷ 111 ∷ 114 ∷ 101 ∷ 32 ∷ 116 ∷ 104 ∷ 101 ∷ 32 ∷ 102 ∷ 105 ∷ 114 ∷ 115 ∷ 116 ∷ 32 ∷ 111 ∷ 114 ∷ 32 ∷ 97 ∷ 102 ∷ 116 ∷ 101 ∷ 114 ∷ 32 ∷ 116 ∷ 104 ∷ 101 ∷ 32 ∷ 108 ∷ 97 ∷ 115 ∷ 116 ∷ 32 ∷ 107 ∷ 110 ∷ 111 ∷ 116 ∷ 10 ∷ [])
+  pub value_refused : writes (Valued (Err (record { cause = cause.Position; place = 0 }))) (114 ∷ 101 ∷ 102 ∷ 117 ∷ 115 ∷ 101 ∷ 100 ∷ 32 ∷ 54 ∷ 32 ∷ 97 ∷ 116 ∷ 32 ∷ 48 ∷ 58 ∷ 32 ∷ 112 ∷ 111 ∷ 115 ∷ 105 ∷ 116 ∷ 105 ∷ 111 ∷ 110 ∷ 32 ∷ 98 ∷ 101 ∷ 102 ∷ 111 ∷ 114 ∷ 101 ∷ 32 ∷ 116 ∷ 104 ∷ 101 ∷ 32 ∷ 102 ∷ 105 ∷ 114 ∷ 115 ∷ 116 ∷ 32 ∷ 111 ∷ 114 ∷ 32 ∷ 97 ∷ 102 ∷ 116 ∷ 101 ∷ 114 ∷ 32 ∷ 116 ∷ 104 ∷ 101 ∷ 32 ∷ 108 ∷ 97 ∷ 115 ∷ 116 ∷ 32 ∷ 107 ∷ 110 ∷ 111 ∷ 116 ∷ 10 ∷ [])
   -- `dwell -7`
   pub dwell : writes (dwells (fin true 7 (pos 0))) (100 ∷ 119 ∷ 101 ∷ 108 ∷ 108 ∷ 32 ∷ 45 ∷ 55 ∷ 10 ∷ [])
   -- `move 3 -0 256`
   pub moved : writes (moves (fin false 3 (pos 0)) (fin true 0 (pos 0)) (fin false 1 (pos 8))) (109 ∷ 111 ∷ 118 ∷ 101 ∷ 32 ∷ 51 ∷ 32 ∷ 45 ∷ 48 ∷ 32 ∷ 50 ∷ 53 ∷ 54 ∷ 10 ∷ [])
   -- `refused 8 at 7: piece too large for the exact float answer`
-  pub drive_refused : writes (Driven (record { refusal = record { number = 8; place = 7 }; answer = Dwell (fin false 0 (pos 0)) })) (114 ∷ 101 ∷ 102 ∷ 117 ∷ 115 ∷ 101 ∷ 100 ∷ 32 ∷ 56 ∷ 32 ∷ 97 ∷ 116 ∷ 32 ∷ 55 ∷ 58 ∷ 32 ∷ 112 ∷ 105 ∷ 101 ∷ 99 ∷ 101 ∷ 32 ∷ 116 ∷ 111 ∷ 111 ∷ 32 ∷ 108 ∷ 97 ∷ 114 ∷ 103 ∷ 101 ∷ 32 ∷ 102 ∷ 111 ∷ 114 ∷ 32 ∷ 116 ∷ 104 ∷ 101 ∷ 32 ∷ 101 ∷ 120 ∷ 97 ∷ 99 ∷ 116 ∷ 32 ∷ 102 ∷ 108 ∷ 111 ∷ 97 ∷ 116 ∷ 32 ∷ 97 ∷ 110 ∷ 115 ∷ 119 ∷ 101 ∷ 114 ∷ 10 ∷ [])
+  pub drive_refused : writes (Driven (Err (record { cause = cause.Size; place = 7 }))) (114 ∷ 101 ∷ 102 ∷ 117 ∷ 115 ∷ 101 ∷ 100 ∷ 32 ∷ 56 ∷ 32 ∷ 97 ∷ 116 ∷ 32 ∷ 55 ∷ 58 ∷ 32 ∷ 112 ∷ 105 ∷ 101 ∷ 99 ∷ 101 ∷ 32 ∷ 116 ∷ 111 ∷ 111 ∷ 32 ∷ 108 ∷ 97 ∷ 114 ∷ 103 ∷ 101 ∷ 32 ∷ 102 ∷ 111 ∷ 114 ∷ 32 ∷ 116 ∷ 104 ∷ 101 ∷ 32 ∷ 101 ∷ 120 ∷ 97 ∷ 99 ∷ 116 ∷ 32 ∷ 102 ∷ 108 ∷ 111 ∷ 97 ∷ 116 ∷ 32 ∷ 97 ∷ 110 ∷ 115 ∷ 119 ∷ 101 ∷ 114 ∷ 10 ∷ [])
   -- `8`
   pub slope_unit : writes (SlopeUnit 8) (56 ∷ 10 ∷ [])
   -- nothing
@@ -527,8 +546,8 @@ right_replies =
       beyond_unsigned = record { counted = refl; buffer = refl };
       refused = record { counted = refl; buffer = refl };
       unit_refused = record { counted = refl; buffer = refl };
-      no_cause_yet = record { counted = refl; buffer = refl };
-      no_cause = record { counted = refl; buffer = refl };
+      no_cause_yet = λ d p. by_a_cause d p;
+      no_cause = λ d p. by_a_cause d p;
       done = record { counted = refl; buffer = refl };
       count = record { counted = refl; buffer = refl };
       falling = record { counted = refl; buffer = refl };

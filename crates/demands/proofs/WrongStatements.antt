@@ -14,7 +14,7 @@ use Rattle.slopes.specs.Slopes.{Built}
 use Rattle.slopes.specs.EveryPiece.{a_built_table_passes_the_table_check}
 use Rattle.position.specs.Position.{Belongs, inside, WithinKnots}
 use Rattle.position.specs.Refused.{none_refused}
-use Rattle.curve.specs.Curve.{value_on, Evaluated}
+use Rattle.curve.specs.Curve.{value_on}
 use Rattle.demands.specs.Demands.{build, evaluate, point, Outcome, NoSlopeAgainstItsRise, rise, ChainOf, none, next}
 use Rattle.demands.specs.Ours.{ours}
 use Rattle.demands.specs.Kept.{ours_keeps}
@@ -24,8 +24,9 @@ use Rattle.demands.specs.Refuting.{within}
 use Rattle.demands.proofs.Programs.{outcome, InOrderAtTheCounts, a_rise_at_its_counts, four, four_built, lowering, lowered, lowered_built, is_lowered}
 
 -- a value of a built table, on any of its pieces
-there : {s : ℕ} {ks vs before ss : List ℤ} {x v : ℤ} {i : ℕ} → Built (table s ks vs before) ss 0 0 → WithinKnots ks x → Belongs ks x i → v ≡ value_on (table s ks vs ss) i x → Evaluated (table s ks vs ss) x 0 0 v
-there {i = i} b w p e = record { refusal = none_refused (a_built_table_passes_the_table_check b) refl w; value = answered (record { piece = i; belongs = p; is = e }) }
+there : {s : ℕ} {ks vs before ss : List ℤ} {x v : ℤ} {i : ℕ} → Built (table s ks vs before) ss 0 0 → WithinKnots ks x → Belongs ks x i → v ≡ value_on (table s ks vs ss) i x → ours.May (evaluate (table s ks vs ss) x) (outcome 0 0 v tt)
+there {s} {ks} {vs} {ss = ss} {x} {v} {i} b w p e =
+    ours_keeps.allowed (evaluate (table s ks vs ss) x) (outcome 0 0 v tt) (record { refusal = none_refused (a_built_table_passes_the_table_check b) refl w; value = answered (record { piece = i; belongs = p; is = e }) })
 
 -- ---- strict order: of two positions, one before the other, on a rising piece the answers differ. Values are whole numbers: on the piece of width 5, rise 1 and slopes 51, 51 they are 0, 0, 0, 1, 1, 1
 
@@ -74,6 +75,6 @@ pub a_change_between_two_answers : ((t u : Table) (b : Outcome (build t)) (c : C
     → (i : ℕ) → i + 1 < length u.knots → entry u.knots i ≤ℤ x → x ≤ℤ y → y ≤ℤ entry u.knots (i + 1)
     → pos 0 <ℤ step t.values i → pos 0 <ℤ step u.values i → o.answer ≤ℤ p.answer) → ⊥
 a_change_between_two_answers s =
-    (s four lowered (outcome 0 0 tt four.slopes) lowering (pos 0) (pos 0) (outcome 0 0 (pos 0) tt) (outcome 0 0 (negsuc 1) tt) (four_built four.slopes refl) refl
+    (s four lowered (outcome 0 0 tt four.slopes) lowering (pos 0) (pos 0) (outcome 0 0 (pos 0) tt) (outcome 0 0 (negsuc 1) tt) (ours_keeps.allowed (build four) (outcome 0 0 tt four.slopes) (four_built four.slopes refl)) refl
     (next {o = outcome 0 0 tt lowered} (ours_keeps.allowed (point [] lowering four) (outcome 0 0 tt lowered) is_lowered) none) (there (four_built four.slopes refl) (within tt tt) (inside {i = 0} (lit< tt) (le_z_yes tt) (lt_z_yes tt)) refl)
     (there (lowered_built lowered.slopes refl) (within tt tt) (inside {i = 0} (lit< tt) (le_z_yes tt) (lt_z_yes tt)) refl) 0 (lit< tt) (le_z_yes tt) (le_z_yes tt) (le_z_yes tt) (lt_z_yes tt) (lt_z_yes tt)).le

@@ -2,7 +2,7 @@
 -- answered to it, last; one that changes a buffer has before that what the buffer may hold when it returns. Where a function and the one that C links promise the same, a theorem
 -- speaks of both. Text is the list of its bytes: 97, 98, 99 and 100 are `a` to `d`, 120 and 121 `x` and `y`, 32 is a space, 9 a tab, 10 an LF, 13 a CR, 43 a `+`, 45 a `-`, and
 -- 48 to 57 are the digits.
-use Rattle.std.specs.Prelude.{◌≡◌, Bool, true, false, not, ◌&&◌, ◌⊎◌, List, [], ◌∷◌, ◌++◌, ℕ, zero, suc, ◌+◌, ◌/◌, ◌%◌, T, ltb, eqb, ℤ, pos, negsuc}
+use Rattle.std.specs.Prelude.{◌≡◌, Bool, true, false, not, ◌&&◌, ◌⊎◌, List, [], ◌∷◌, ◌++◌, ℕ, zero, suc, ◌+◌, ◌/◌, ◌%◌, T, ltb, eqb, ℤ, pos, negsuc, Option, Some, None, Result, Ok, Err}
 use Rattle.std.proofs.Common.{sym, ap, subst, ◌∙◌, ltb-true, ltb-false, T_not, leb→le}
 use Rattle.std.proofs.Math.Dec.{eqb_refl}
 use contract.Lifetimes.{Lfts}
@@ -11,16 +11,15 @@ use Rattle.words.specs.Words.{front, words_after}
 use Rattle.words.specs.Lines.{Appended}
 use Rattle.words.specs.Runs.{by_test}
 use Rattle.words.specs.declared.split.Word.{Word}
-use Rattle.words.specs.declared.split.Word.TheVariants.{At, Nothing}
 use Rattle.decimals.specs.Decimal.{are_digits, natural}
 use Rattle.decimals.specs.Text.{spelled, decimal_of}
 use Rattle.decimals.specs.Spelling.{one_digit, by_tenths}
-use Rattle.decimals.specs.declared.reading.Number
-use Rattle.decimals.specs.declared.reading.Number32
+use Rattle.decimals.specs.declared.reading.NotNumber.{NotNumber}
+use Rattle.decimals.specs.declared.reading.NotNumber.TheVariants.{NotDecimal, TooLarge}
 use Rattle.exports.specs.declared.text.Span.{Span}
 use Rattle.exports.specs.declared.text.Read.{Read}
 use Rattle.exports.specs.declared.text.Read32.{Read32}
-use Rattle.exports.specs.Cases.{found, nothing, NumberAs, Number32As}
+use Rattle.exports.specs.Cases.{found, nothing, NumberAs}
 use Rattle.exports.specs.Determined.{one_span, one_read, one_read32}
 use Rattle.demands.specs.ByContract.{to_change}
 use Rattle.demands.proofs.WrongNumbers.{either}
@@ -93,9 +92,9 @@ abbrev integer : ℤ → List ℕ
 integer (pos n) = 0 ∷ n ∷ []
 integer (negsuc n) = 1 ∷ n ∷ []
 
-abbrev word : Word → List ℕ
-word (At start end) = start ∷ end ∷ []
-word Nothing = []
+abbrev word : Option Word → List ℕ
+word (Some w) = w.start ∷ w.end ∷ []
+word None = []
 
 abbrev bit : Bool → ℕ
 bit true = 1
@@ -110,19 +109,14 @@ kind_and_value r = r.kind ∷ integer r.value
 abbrev kind_and_value32 : Read32 → List ℕ
 kind_and_value32 r = r.kind ∷ integer r.value
 
-abbrev read : Number.Number → List ℕ
-read (Number.TheVariants.Is n) = 0 ∷ integer n
-read Number.TheVariants.NotDecimal = 1 ∷ []
-read Number.TheVariants.TooLarge = 2 ∷ []
-
-abbrev read32 : Number32.Number32 → List ℕ
-read32 (Number32.TheVariants.Is n) = 0 ∷ integer n
-read32 Number32.TheVariants.NotDecimal = 1 ∷ []
-read32 Number32.TheVariants.TooLarge = 2 ∷ []
+abbrev read : Result ℤ NotNumber → List ℕ
+read (Ok n) = 0 ∷ integer n
+read (Err NotDecimal) = 1 ∷ []
+read (Err TooLarge) = 2 ∷ []
 
 -- ---- words::next_word
 
-abbrev next_word : List ℕ → ℕ → (r : Word) → Type 0
+abbrev next_word : List ℕ → ℕ → (r : Option Word) → Type 0
 next_word line from r = words-next_word.Post one (bytes line, (from, tt)) r (bytes line, (from, tt))
 
 abbrev next_word_in-C : List ℕ → ℕ → Bool → (start end : ℕ) → Type 0
@@ -130,22 +124,22 @@ next_word_in-C line from is start end =
     exports-negwafir_next_word.Post one (bytes line, (from, tt)) (record { found = is; start = start; end = end }) (bytes line, (from, tt))
 
 -- `a`, tab, `b` is two words, and not one
-pub tab_in_a_word : next_word (97 ∷ 9 ∷ 98 ∷ []) 0 (At 0 3) → ⊥
+pub tab_in_a_word : next_word (97 ∷ 9 ∷ 98 ∷ []) 0 (Some (record { start = 0; end = 3 })) → ⊥
 unfolding front
 tab_in_a_word p = differ (ap word p) tt
 
 -- the second word of `a b`, looked for from 1, ends at 3, and not where the search began
-pub word_ends_where_the_search_began : next_word (97 ∷ 32 ∷ 98 ∷ []) 1 (At 2 1) → ⊥
+pub word_ends_where_the_search_began : next_word (97 ∷ 32 ∷ 98 ∷ []) 1 (Some (record { start = 2; end = 1 })) → ⊥
 unfolding front
 word_ends_where_the_search_began p = differ (ap word p) tt
 
 -- it starts at 2, and not at the space where the search began
-pub word_starts_where_the_search_began : next_word (97 ∷ 32 ∷ 98 ∷ []) 1 (At 1 3) → ⊥
+pub word_starts_where_the_search_began : next_word (97 ∷ 32 ∷ 98 ∷ []) 1 (Some (record { start = 1; end = 3 })) → ⊥
 unfolding front
 word_starts_where_the_search_began p = differ (ap word p) tt
 
 -- a space alone has no word
-pub word_of_a_space : next_word (32 ∷ []) 0 (At 0 1) → ⊥
+pub word_of_a_space : next_word (32 ∷ []) 0 (Some (record { start = 0; end = 1 })) → ⊥
 unfolding front
 word_of_a_space p = differ (ap word p) tt
 
@@ -295,49 +289,49 @@ counted_and_not_put p = differ (either p).buffer tt
 
 -- ---- decimals::whole
 
-abbrev whole : List ℕ → (r : Number.Number) → Type 0
+abbrev whole : List ℕ → (r : Result ℤ NotNumber) → Type 0
 whole text r = decimals-whole.Post one (bytes text, tt) r (bytes text, tt)
 
 abbrev whole_in-C : List ℕ → (kind : ℕ) (value : ℤ) → Type 0
 whole_in-C text kind value = exports-negwafir_whole.Post one (bytes text, tt) (record { kind = kind; value = value }) (bytes text, tt)
 
 -- `10` is 10, and 9 in base nine
-pub base_nine : whole (49 ∷ 48 ∷ []) (Number.TheVariants.Is (pos 9)) → ⊥
+pub base_nine : whole (49 ∷ 48 ∷ []) (Ok (pos 9)) → ⊥
 unfolding are_digits natural
 base_nine p = differ (ap read p) tt
 
 -- `0` is 0, and not 1
-pub digit_off_by_one : whole (48 ∷ []) (Number.TheVariants.Is (pos 1)) → ⊥
+pub digit_off_by_one : whole (48 ∷ []) (Ok (pos 1)) → ⊥
 unfolding are_digits natural
 digit_off_by_one p = differ (ap read p) tt
 
 -- `-5` is −5, and not 5
-pub sign_dropped : whole (45 ∷ 53 ∷ []) (Number.TheVariants.Is (pos 5)) → ⊥
+pub sign_dropped : whole (45 ∷ 53 ∷ []) (Ok (pos 5)) → ⊥
 unfolding are_digits natural
 sign_dropped p = differ (ap read p) tt
 
 -- `-5` is a number, as `-` is a sign
-pub minus_no_sign : whole (45 ∷ 53 ∷ []) Number.TheVariants.NotDecimal → ⊥
+pub minus_no_sign : whole (45 ∷ 53 ∷ []) (Err NotDecimal) → ⊥
 unfolding are_digits natural
 minus_no_sign p = differ (ap read p) tt
 
 -- `+5` is no number, as `+` is no sign
-pub plus_a_sign : whole (43 ∷ 53 ∷ []) (Number.TheVariants.Is (pos 5)) → ⊥
+pub plus_a_sign : whole (43 ∷ 53 ∷ []) (Ok (pos 5)) → ⊥
 unfolding are_digits natural
 plus_a_sign p = differ (ap read p) tt
 
 -- 9223372036854775808 is no number of 64 bits, whichever might be taken for it
-pub limit_too_large : (n : ℤ) → whole digits_of_2⁶³ (Number.TheVariants.Is n) → ⊥
+pub limit_too_large : (n : ℤ) → whole digits_of_2⁶³ (Ok n) → ⊥
 unfolding are_digits natural
 limit_too_large n p = differ (ap read p) tt
 
 -- −9223372036854775808 is a number of 64 bits
-pub least_number_lost : whole (45 ∷ digits_of_2⁶³) Number.TheVariants.TooLarge → ⊥
+pub least_number_lost : whole (45 ∷ digits_of_2⁶³) (Err TooLarge) → ⊥
 unfolding are_digits natural
 least_number_lost p = differ (ap read p) tt
 
 -- 20000000000000000000 wraps to 1553255926290448384 in 64 bits, and is too large
-pub sum_wraps : whole digits_of_2-10¹⁹ (Number.TheVariants.Is (pos 1553255926290448384)) → ⊥
+pub sum_wraps : whole digits_of_2-10¹⁹ (Ok (pos 1553255926290448384)) → ⊥
 unfolding are_digits natural
 sum_wraps p = differ (ap read p) tt
 
@@ -363,36 +357,36 @@ too_large_called_a_number n p = differ (ap kind_and_value (one_read p NumberAs.t
 
 -- ---- decimals::whole32
 
-abbrev whole32 : List ℕ → (r : Number32.Number32) → Type 0
+abbrev whole32 : List ℕ → (r : Result ℤ NotNumber) → Type 0
 whole32 text r = decimals-whole32.Post one (bytes text, tt) r (bytes text, tt)
 
 abbrev whole32_in-C : List ℕ → (kind : ℕ) (value : ℤ) → Type 0
 whole32_in-C text kind value = exports-negwafir_whole32.Post one (bytes text, tt) (record { kind = kind; value = value }) (bytes text, tt)
 
 -- 2147483648 is no number of 32 bits, whichever might be taken for it
-pub limit32_too_large : (n : ℤ) → whole32 digits_of_2³¹ (Number32.TheVariants.Is n) → ⊥
+pub limit32_too_large : (n : ℤ) → whole32 digits_of_2³¹ (Ok n) → ⊥
 unfolding are_digits natural
-limit32_too_large n p = differ (ap read32 p) tt
+limit32_too_large n p = differ (ap read p) tt
 
 -- −2147483648 is a number of 32 bits
-pub least32_lost : whole32 (45 ∷ digits_of_2³¹) Number32.TheVariants.TooLarge → ⊥
+pub least32_lost : whole32 (45 ∷ digits_of_2³¹) (Err TooLarge) → ⊥
 unfolding are_digits natural
-least32_lost p = differ (ap read32 p) tt
+least32_lost p = differ (ap read p) tt
 
 -- `x` is no decimal number, kind 1, and not too large
 pub kinds32_exchanged : whole32_in-C (120 ∷ []) 2 (pos 0) → ⊥
 unfolding are_digits natural
-kinds32_exchanged p = differ (ap kind_and_value32 (one_read32 p Number32As.not_decimal)) tt
+kinds32_exchanged p = differ (ap kind_and_value32 (one_read32 p NumberAs.not_decimal)) tt
 
 -- 2147483648 is too large, kind 2, and does not wrap
 pub number32_wraps : whole32_in-C digits_of_2³¹ 0 (negsuc 2147483647) → ⊥
 unfolding are_digits natural
-number32_wraps p = differ (ap kind_and_value32 (one_read32 p Number32As.too_large)) tt
+number32_wraps p = differ (ap kind_and_value32 (one_read32 p NumberAs.too_large)) tt
 
 -- where it is too large the value is 0, and not the largest number
 pub value_of_no_number32 : whole32_in-C digits_of_2³¹ 2 (pos 2147483647) → ⊥
 unfolding are_digits natural
-value_of_no_number32 p = differ (ap kind_and_value32 (one_read32 p Number32As.too_large)) tt
+value_of_no_number32 p = differ (ap kind_and_value32 (one_read32 p NumberAs.too_large)) tt
 
 -- ---- decimals::append_natural
 

@@ -1,6 +1,6 @@
 -- Wrong programs that break the second demand in another unit than 1/256: what document 01 and request 2 have as 256, or as 768, was left in them. Each is ours but for the one thing, and ours wherever s is 8,
 -- but where it is said otherwise.
-use Rattle.std.specs.Prelude.{refl, List, [], ◌∷◌, ℕ, zero, suc, ◌-◌, ◌^◌, ℤ, pos, negsuc, ◌+ℤ◌}
+use Rattle.std.specs.Prelude.{Ok, refl, List, [], ◌∷◌, ℕ, zero, suc, ◌-◌, ◌^◌, ℤ, pos, negsuc, ◌+ℤ◌}
 use Rattle.std.proofs.Common.{arith, lit<, lit≤}
 use Rattle.std.specs.Int.Signed.{lt_z_yes}
 use Rattle.integers.specs.Promise.{floor_of}
@@ -39,7 +39,7 @@ eighths = record { high = lit≤ tt }
 pub a_verdict_in_256ths : Demand2 (answering (another_judge (λ s h z m n o. May (judge 8 h z m n) (outcome o.number o.place o.answer tt)))) → ⊥
 a_verdict_in_256ths d =
     down ((d.a_piece_gets_a_yes_exactly_then {o = outcome 0 0 rising tt} whole (within tt tt) (within tt tt)
-    (record { verdict = Rising; says = refl; promised = monotone (record { high = lit≤ tt }) (within tt tt) (within tt tt) (below_the_line tt tt tt tt) })).0 (not_bends tt))
+    (record { verdict = Ok Rising; says = refl; promised = monotone (record { high = lit≤ tt }) (within tt tt) (within tt tt) (below_the_line tt tt tt tt) })).0 (not_bends tt))
   where
     down : NoSlopeAgainstItsRise (unit 0) (pos 1) (pos 1) (pos 4) (pos 0) → ⊥
     down s = (s.while_rising (lt_z_yes tt) 4 5 (lit≤ tt) (lit≤ tt)).le

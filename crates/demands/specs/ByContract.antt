@@ -1,15 +1,27 @@
 -- What a function may answer, by its own contract, in few words: `PointsAnswer t number place` is what `points` ensures of the table t where it answers this number and place. `after`
 -- are the lists that are lent to be changed, as the call leaves them. The names that end in C are of the functions that C links, and those that begin with Asked are what a
 -- function requires, where it requires anything.
-use Rattle.std.specs.Prelude.{◌≡◌, refl, Bool, List, [], ℕ, ℤ, Float}
+use Rattle.std.specs.Prelude.{Bool, List, [], ℕ, ℤ, pos, Float, Option, Result, false}
+use Rattle.std.specs.Float.{fin}
 use contract.Lifetimes.{Lfts}
 use Rattle.std.specs.Borrow.{Bor, MutBor}
-use Rattle.rules.specs.declared.Refusal.{Refusal}
+use Rattle.rules.specs.declared.Refused.{Refused}
+use Rattle.rules.specs.declared.limits.SlopeUnit.{SlopeUnit}
+use Rattle.rules.specs.declared.limits.Extent.{Extent}
+use Rattle.rules.specs.Known.{UnitSize}
+use Rattle.rules.specs.Limits.{WidthWithin, RiseWithin}
+use Rattle.rules.specs.Numbered.{Says}
 use Rattle.piece.specs.declared.Verdict.{Verdict}
+use Rattle.table.specs.declared.Table as declared
+use Rattle.table.specs.declared.good.GoodPoints.{GoodPoints}
 use Rattle.table.specs.declared.changed.Change.{Change}
+use Rattle.table.specs.Accepted.{PointsWithin}
 use Rattle.table.specs.Table.{Table}
-use Rattle.position.specs.declared.Sought.{Sought}
+use Rattle.position.specs.declared.Spot.{Spot}
+use Rattle.position.specs.declared.inside.Inside.{Inside}
 use Rattle.drive.specs.declared.Answer.{Answer}
+use Rattle.drive.specs.declared.Answer.TheVariants.{Dwell}
+use Rattle.exports.specs.declared.records.Refusal.{Refusal}
 use Rattle.piece.proofs.judge.Reads as piece-judge
 use Rattle.piece.proofs.is_monotone.Reads as piece-is_monotone
 use Rattle.piece.proofs.coefficients.Reads as piece-coefficients
@@ -17,9 +29,11 @@ use Rattle.table.proofs.points.Reads as table-points
 use Rattle.table.proofs.check.Reads as table-check
 use Rattle.table.proofs.changed_points.Reads as table-changed_points
 use Rattle.table.proofs.step.Reads as table-step
+use Rattle.table.proofs.good.GoodPoints.piece.Reads as table-GoodPoints-piece
 use Rattle.slopes.proofs.build.Reads as slopes-build
 use Rattle.slopes.proofs.renew.Reads as slopes-renew
 use Rattle.position.proofs.locate.Reads as position-locate
+use Rattle.position.proofs.find.Reads as position-find
 use Rattle.position.proofs.seek.Reads as position-seek
 use Rattle.curve.proofs.evaluate.Reads as curve-evaluate
 use Rattle.drive.proofs.float_answer.Reads as drive-float_answer
@@ -49,6 +63,17 @@ three = ([], ([], ([], tt)))
 abbrev pub Lent : Type 0 → Type 0
 Lent A = Bor (List ℤ) × (Bor (List ℤ) × (Bor (List ℤ) × A))
 
+-- a table as a Rust function is lent it
+abbrev pub lent : Table → declared.Table
+lent t = record { s = t.s; knots = list t.knots; values = list t.values; slopes = list t.slopes }
+
+-- and good points
+abbrev pub points_of : {ks vs : List ℤ} → PointsWithin ks vs → GoodPoints
+points_of {ks} {vs} w = record { knots = list ks; values = list vs; within = w }
+
+abbrev pub one : Lfts 1
+one = ([], tt)
+
 -- those of a table, behind what comes first: the number of its unit, the unit itself, or nothing
 abbrev pub lists : {A : Type 0} → Table → A → Lent A
 lists t a = (list t.knots, (list t.values, (list t.slopes, a)))
@@ -73,67 +98,82 @@ whole_to_change t a = (t.s, lists_to_change t a)
 abbrev pub refusal : (number place : ℕ) → Refusal
 refusal number place = record { number = number; place = place }
 
+-- Some result of a Rust function says this number, this place and this answer, and meets what the function ensures. `none` is what stands for the answer where it is refused.
+abbrev pub Answers : {A : Type 0} → A → (Result A Refused → Type 0) → (number place : ℕ) → A → Type 0
+Answers {A} none Post number place answer = (r : Result A Refused) × Says none r number place answer × Post r
+
 -- ---- of a piece
 
 module _ (s : ℕ) (h z m n : ℤ) where
-  abbrev pub Judges : Verdict → Type 0
+  abbrev pub Judges : Result Verdict Refused → Type 0
   Judges verdict = piece-judge.Post tt (s, (h, (z, (m, (n, tt))))) verdict (s, (h, (z, (m, (n, tt)))))
 
   abbrev pub JudgesC : (number place verdict : ℕ) → Type 0
   JudgesC number place verdict = negwafir_judge.Post tt (s, (h, (z, (m, (n, tt))))) (record { refusal = refusal number place; verdict = verdict }) (s, (h, (z, (m, (n, tt)))))
 
--- with slopes in 1/U
+-- with slopes in 1/U: the unit and the extent that a function takes are within their limits
 module _ (U h z m n : ℤ) where
-  abbrev pub AskedMonotone : Type 0
-  AskedMonotone = piece-is_monotone.Pre tt (U, (h, (z, (m, (n, tt)))))
+  pub record InLimits : Type 0 where
+    pub unit : UnitSize U
+    pub width : WidthWithin h
+    pub rise : RiseWithin z
 
-  abbrev pub SaysMonotone : Bool → Type 0
-  SaysMonotone b = piece-is_monotone.Post tt (U, (h, (z, (m, (n, tt))))) b (U, (h, (z, (m, (n, tt)))))
+  abbrev pub handed : InLimits → SlopeUnit × (Extent × (ℤ × (ℤ × Unit {0})))
+  handed w = (record { size = U; within = w.unit }, (record { h = h; z = z; width = w.width; rise = w.rise }, (m, (n, tt))))
+
+  abbrev pub AskedMonotone : Type 0
+  AskedMonotone = (w : InLimits) × piece-is_monotone.Pre tt (handed w)
 
   abbrev pub AskedCoefficients : Type 0
-  AskedCoefficients = piece-coefficients.Pre tt (U, (h, (z, (m, (n, tt)))))
+  AskedCoefficients = (w : InLimits) × piece-coefficients.Pre tt (handed w)
 
-  abbrev pub HasCoefficients : (first second third : ℤ) → Type 0
-  HasCoefficients first second third = piece-coefficients.Post tt (U, (h, (z, (m, (n, tt))))) (record { first = first; second = second; third = third }) (U, (h, (z, (m, (n, tt)))))
+  abbrev pub SaysMonotone : AskedMonotone → Bool → Type 0
+  SaysMonotone a b = piece-is_monotone.Post tt (handed a.0) b (handed a.0)
+
+  abbrev pub HasCoefficients : AskedCoefficients → (first second third : ℤ) → Type 0
+  HasCoefficients a first second third = piece-coefficients.Post tt (handed a.0) (record { first = first; second = second; third = third }) (handed a.0)
 
 -- ---- of a table
 
 module _ (t : Table) where
   abbrev pub PointsAnswer : (number place : ℕ) → Type 0
-  PointsAnswer number place = table-points.Post three (whole t tt) (refusal number place) (whole t tt)
+  PointsAnswer number place = Answers tt (λ r. table-points.Post one (lent t, tt) r (lent t, tt)) number place tt
 
   abbrev pub PointsAnswerC : (number place : ℕ) → Type 0
   PointsAnswerC number place = negwafir_points.Post three (whole t tt) (refusal number place) (whole t tt)
 
   abbrev pub Checks : (number place : ℕ) → Type 0
-  Checks number place = table-check.Post three (whole t tt) (refusal number place) (whole t tt)
+  Checks number place = Answers tt (λ r. table-check.Post one (lent t, tt) r (lent t, tt)) number place tt
 
   abbrev pub ChecksC : (number place : ℕ) → Type 0
   ChecksC number place = negwafir_check.Post three (whole t tt) (refusal number place) (whole t tt)
 
   abbrev pub Builds : (number place : ℕ) (after : List ℤ) → Type 0
-  Builds number place after = slopes-build.Post three (whole_with t t.slopes tt) (refusal number place) (whole_with t after tt)
+  Builds number place after = Answers tt (λ r. slopes-build.Post three (whole_with t t.slopes tt) r (whole_with t after tt)) number place tt
 
   abbrev pub BuildsC : (number place : ℕ) (after : List ℤ) → Type 0
   BuildsC number place after = negwafir_build.Post three (whole_with t t.slopes tt) (refusal number place) (whole_with t after tt)
 
-  -- the slopes of the points from one number up to another, in 1/U
+  -- the slopes of the points from one number up to another, in 1/U: the unit and the points are within their limits, and what the clauses ask
   module _ (U : ℤ) (from to : ℕ) where
-    abbrev pub AskedRenewal : Type 0
-    AskedRenewal = slopes-renew.Pre three (U, lists_with t t.slopes (from, (to, tt)))
+    abbrev pub renewal : UnitSize U → PointsWithin t.knots t.values → List ℤ → SlopeUnit × (GoodPoints × (MutBor (List ℤ) × (ℕ × (ℕ × Unit {0}))))
+    renewal u w slopes = (record { size = U; within = u }, (points_of w, (to_change slopes, (from, (to, tt)))))
 
-    abbrev pub RenewsTo : (after : List ℤ) → Type 0
-    RenewsTo after = slopes-renew.Post three (U, lists_with t t.slopes (from, (to, tt))) tt (U, lists_with t after (from, (to, tt)))
+    abbrev pub AskedRenewal : Type 0
+    AskedRenewal = (u : UnitSize U) × (w : PointsWithin t.knots t.values) × slopes-renew.Pre ([], ([], tt)) (renewal u w t.slopes)
+
+    abbrev pub RenewsTo : AskedRenewal → (after : List ℤ) → Type 0
+    RenewsTo a after = slopes-renew.Post ([], ([], tt)) (renewal a.0 a.1 t.slopes) tt (renewal a.0 a.1 after)
 
   module _ (c : Change) where
     abbrev pub ChangedPoints : (number place : ℕ) → Type 0
-    ChangedPoints number place = table-changed_points.Post three (whole t (c, tt)) (refusal number place) (whole t (c, tt))
+    ChangedPoints number place = Answers tt (λ r. table-changed_points.Post one (lent t, (c, tt)) r (lent t, (c, tt))) number place tt
 
     abbrev pub ChangedPointsC : (number place : ℕ) → Type 0
     ChangedPointsC number place = negwafir_changed_points.Post three (whole t (c, tt)) (refusal number place) (whole t (c, tt))
 
     abbrev pub Changes : (number place : ℕ) (after : Table) → Type 0
-    Changes number place after = change-point.Post three (whole_to_change t (c, tt)) (refusal number place) (t.s, lists_to_change after (c, tt))
+    Changes number place after = Answers tt (λ r. change-point.Post three (whole_to_change t (c, tt)) r (t.s, lists_to_change after (c, tt))) number place tt
 
     abbrev pub ChangesC : (number place : ℕ) (after : Table) → Type 0
     ChangesC number place after = negwafir_change_point.Post three (whole_to_change t (c, tt)) (refusal number place) (t.s, lists_to_change after (c, tt))
@@ -145,54 +185,42 @@ module _ (xs : List ℤ) (i : ℕ) where
   abbrev pub Steps : ℤ → Type 0
   Steps by = table-step.Post ([], tt) (list xs, (i, tt)) by (list xs, (i, tt))
 
+-- the points are within their limits, and what the clause asks holds
+module _ (ks vs : List ℤ) (i : ℕ) where
+  abbrev pub AskedPiece : Type 0
+  AskedPiece = (w : PointsWithin ks vs) × table-GoodPoints-piece.Pre ([], tt) (points_of w, (i, tt))
+
+  abbrev pub PieceIs : AskedPiece → Extent → Type 0
+  PieceIs a e = table-GoodPoints-piece.Post ([], tt) (points_of a.0, (i, tt)) e (points_of a.0, (i, tt))
+
 -- ---- of a table at a position
 
 module _ (t : Table) (x : ℤ) where
   abbrev pub Locates : (number place piece : ℕ) → Type 0
-  Locates number place piece = position-locate.Post three (whole t (x, tt)) (record { refusal = refusal number place; piece = piece }) (whole t (x, tt))
+  Locates number place piece = Answers 0 (λ r. position-locate.Post one (lent t, (x, tt)) r (lent t, (x, tt))) number place piece
 
   abbrev pub LocatesC : (number place piece : ℕ) → Type 0
   LocatesC number place piece = negwafir_locate.Post three (whole t (x, tt)) (record { refusal = refusal number place; piece = piece }) (whole t (x, tt))
 
-  abbrev pub AskedSeek : Type 0
-  AskedSeek = position-seek.Pre three (lists t (x, tt))
+  abbrev pub Finds : Result Inside Refused → Type 0
+  Finds place = position-find.Post one (lent t, (x, tt)) place (lent t, (x, tt))
 
-  abbrev pub Seeks : Sought → Type 0
-  Seeks sought = position-seek.Post three (lists t (x, tt)) sought (lists t (x, tt))
+  -- the points are within their limits, and what the clause asks holds
+  abbrev pub AskedSeek : Type 0
+  AskedSeek = (w : PointsWithin t.knots t.values) × position-seek.Pre ([], ([], tt)) (points_of w, (list t.slopes, (x, tt)))
+
+  abbrev pub Seeks : AskedSeek → Option Spot → Type 0
+  Seeks a sought = position-seek.Post ([], ([], tt)) (points_of a.0, (list t.slopes, (x, tt))) sought (points_of a.0, (list t.slopes, (x, tt)))
 
   abbrev pub Evaluates : (number place : ℕ) (value : ℤ) → Type 0
-  Evaluates number place value = curve-evaluate.Post three (whole t (x, tt)) (record { refusal = refusal number place; value = value }) (whole t (x, tt))
+  Evaluates number place value = Answers (pos 0) (λ r. curve-evaluate.Post one (lent t, (x, tt)) r (lent t, (x, tt))) number place value
 
   abbrev pub EvaluatesC : (number place : ℕ) (value : ℤ) → Type 0
   EvaluatesC number place value = negwafir_evaluate.Post three (whole t (x, tt)) (record { refusal = refusal number place; value = value }) (whole t (x, tt))
 
   abbrev pub Drives : (number place : ℕ) → Answer → Type 0
-  Drives number place answer = drive-float_answer.Post three (whole t (x, tt)) (record { refusal = refusal number place; answer = answer }) (whole t (x, tt))
+  Drives number place answer = Answers (Dwell (fin false 0 (pos 0))) (λ r. drive-float_answer.Post one (lent t, (x, tt)) r (lent t, (x, tt))) number place answer
 
   abbrev pub DrivesC : (number place kind : ℕ) (left numerator denominator : Float) → Type 0
   DrivesC number place kind left numerator denominator =
       negwafir_float_answer.Post three (whole t (x, tt)) (record { refusal = refusal number place; kind = kind; left = left; numerator = numerator; denominator = denominator }) (whole t (x, tt))
-
--- ---- in C
-
--- Where no record stands for an enum, C is promised just what the function below ensures: what is refuted of the one is refuted of the other.
-pub record TheSameInC : Type 1 where
-  pub points : (t : Table) (number place : ℕ) → PointsAnswerC t number place ≡ PointsAnswer t number place
-  pub check : (t : Table) (number place : ℕ) → ChecksC t number place ≡ Checks t number place
-  pub build : (t : Table) (number place : ℕ) (after : List ℤ) → BuildsC t number place after ≡ Builds t number place after
-  pub changed_points : (t : Table) (c : Change) (number place : ℕ) → ChangedPointsC t c number place ≡ ChangedPoints t c number place
-  pub point : (t : Table) (c : Change) (number place : ℕ) (after : Table) → ChangesC t c number place after ≡ Changes t c number place after
-  pub locate : (t : Table) (x : ℤ) (number place piece : ℕ) → LocatesC t x number place piece ≡ Locates t x number place piece
-  pub evaluate : (t : Table) (x : ℤ) (number place : ℕ) (value : ℤ) → EvaluatesC t x number place value ≡ Evaluates t x number place value
-
-pub the_same_in-C : TheSameInC
-the_same_in-C =
-    record {
-      points = λ t number place. refl;
-      check = λ t number place. refl;
-      build = λ t number place after. refl;
-      changed_points = λ t c number place. refl;
-      point = λ t c number place after. refl;
-      locate = λ t x number place piece. refl;
-      evaluate = λ t x number place value. refl;
-    }

@@ -7,7 +7,9 @@ pub mod NeverBacksUp
 pub mod Ours
 pub mod Refuting
 pub mod Rules
+pub mod Said
 pub mod Shown
 pub mod Sixteen
+pub mod TheSame
 pub mod Ties
 pub mod Values

@@ -1,6 +1,7 @@
 -- Our two implementations, made of the contracts of the functions themselves: `NAME.Pre` is what a function requires, as the prover reads it off its header, and what it
 -- ensures has a short name in `ByContract.antt`. One is the Rattle functions, the other those that C links.
-use Rattle.std.specs.Prelude.{◌≡◌, ℕ, ℤ}
+use Rattle.std.specs.Prelude.{◌≡◌, ℕ, ℤ, Result}
+use Rattle.rules.specs.declared.Refused.{Refused}
 use Rattle.table.specs.declared.changed.Change.{Change}
 use Rattle.table.specs.Table.{Table}
 use Rattle.piece.specs.declared.Verdict.{Verdict}
@@ -9,7 +10,7 @@ use Rattle.drive.specs.declared.Answer as Answer
 use Rattle.drive.specs.Drive.{Telling, dwell, move, told_of}
 use Rattle.exports.specs.declared.answers.Told.{Told}
 use Rattle.exports.specs.Cases.{verdict_number}
-use Rattle.demands.specs.ByContract.{three, whole, whole_with, whole_to_change, refusal, Judges, JudgesC, PointsAnswer, PointsAnswerC, Checks, ChecksC, Builds, BuildsC, ChangedPoints, ChangedPointsC, Changes, ChangesC, Locates, LocatesC, Evaluates, EvaluatesC, Drives, DrivesC}
+use Rattle.demands.specs.ByContract.{three, one, lent, whole, whole_with, whole_to_change, refusal, Judges, JudgesC, PointsAnswer, PointsAnswerC, Checks, ChecksC, Builds, BuildsC, ChangedPoints, ChangedPointsC, Changes, ChangesC, Locates, LocatesC, Evaluates, EvaluatesC, Drives, DrivesC}
 use Rattle.demands.specs.Demands.{Call, judge, points, build, check, locate, evaluate, float_answer, changed_points, point, Outcome, Implementation}
 use Rattle.piece.proofs.judge.Reads as piece-judge
 use Rattle.table.proofs.points.Reads as table-points
@@ -32,7 +33,7 @@ use Rattle.exports.proofs.negwafir_change_point.Reads as negwafir_change_point
 
 -- Where a function answers an enum, or a record that stands for one, some case of it says what came out.
 pub record ByJudge (s : ℕ) (h z m n : ℤ) (o : Outcome (judge s h z m n)) : Type 0 where
-  pub verdict : Verdict
+  pub verdict : Result Verdict Refused
   pub says : ruling_of verdict ≡ ruling o.number o.place o.answer
   pub promised : Judges s h z m n verdict
 
@@ -65,13 +66,13 @@ pub record ByPointC (c : Change) (t : Table) (number place : ℕ) (after : Table
 
 abbrev pub Asks : Call → Type 0
 Asks (judge s h z m n) = piece-judge.Pre tt (s, (h, (z, (m, (n, tt)))))
-Asks (points t) = table-points.Pre three (whole t tt)
+Asks (points t) = table-points.Pre one (lent t, tt)
 Asks (build t) = slopes-build.Pre three (whole_with t t.slopes tt)
-Asks (check t) = table-check.Pre three (whole t tt)
-Asks (locate t x) = position-locate.Pre three (whole t (x, tt))
-Asks (evaluate t x) = curve-evaluate.Pre three (whole t (x, tt))
-Asks (float_answer t x) = drive-float_answer.Pre three (whole t (x, tt))
-Asks (changed_points c t) = table-changed_points.Pre three (whole t (c, tt))
+Asks (check t) = table-check.Pre one (lent t, tt)
+Asks (locate t x) = position-locate.Pre one (lent t, (x, tt))
+Asks (evaluate t x) = curve-evaluate.Pre one (lent t, (x, tt))
+Asks (float_answer t x) = drive-float_answer.Pre one (lent t, (x, tt))
+Asks (changed_points c t) = table-changed_points.Pre one (lent t, (c, tt))
 Asks (point made c t) = change-point.Pre three (whole_to_change t (c, tt))
 
 abbrev pub May : (call : Call) → Outcome call → Type 0

@@ -1,15 +1,20 @@
 -- "Every public answer is determined for every input, refusals too, together with each lent list after the call. Show that no two different results can satisfy a
 -- promise": of every public function, by its own contract. `Tied` says that it asks nothing of its caller, and that two results which meet what it ensures are the same. A
 -- result is what is returned and, where a list is lent to be changed, what it holds when the call returns. The functions with a `requires` are `TiedWhere` it is met.
-use Rattle.std.specs.Prelude.{◌≡◌, refl, List, ℕ, ℤ}
+use Rattle.std.specs.Prelude.{◌≡◌, refl, List, ℕ, ℤ, pos, false, Option, Some, Result, Ok, Err}
 use Rattle.std.proofs.Common.{sym, ◌∙◌, ap, subst}
 use Rattle.std.specs.Borrow.{Bor, MutBor}
+use Rattle.std.specs.Float.{fin}
+use Rattle.rules.specs.declared.limits.SlopeUnit.{SlopeUnit}
+use Rattle.rules.specs.declared.limits.Extent.{Extent}
 use Rattle.integers.specs.Decided.{one_decision}
 use Rattle.integers.specs.Nearest.{one_rounded}
 use Rattle.words.specs.Determined.{one_count, one_buffer}
 use Rattle.lines.specs.Determined.{one_taken, one_line}
 use Rattle.lists.specs.Determined.{one_set, one_list}
-use Rattle.rules.specs.declared.Refusal.{Refusal}
+use Rattle.rules.specs.declared.Refused.{Refused}
+use Rattle.rules.specs.Causes.{number, place, answer_or}
+use Rattle.rules.specs.Numbered.{never_0, one_answer}
 use Rattle.rules.specs.Refusals.{Given}
 use Rattle.rules.specs.Order.{one_given}
 use Rattle.piece.specs.declared.Cubic.{Cubic}
@@ -19,14 +24,18 @@ use Rattle.table.specs.Table.{Table}
 use Rattle.table.specs.Accepted.{PointsWithin}
 use Rattle.slopes.specs.Determined.{one_build}
 use Rattle.position.specs.declared.Spot.{Spot}
-use Rattle.position.specs.declared.Sought.{Sought}
-use Rattle.position.specs.declared.Sought.TheVariants.{On}
+use Rattle.position.specs.declared.inside.Inside.{Inside}
+use Rattle.position.specs.Inside.{FoundAt}
+use Rattle.position.specs.Refused.{accepted_at}
 use Rattle.position.specs.Pieces.{one_piece}
 use Rattle.position.specs.Spot.{SpotOn, SoughtIn, outside, on}
 use Rattle.position.specs.Determined.{one_place}
 use Rattle.curve.specs.Determined.{one_evaluation}
-use Rattle.drive.specs.declared.Driven.{Driven}
-use Rattle.drive.specs.Drive.{told_of, Driving}
+use Rattle.drive.specs.declared.Answer.{Answer}
+use Rattle.exports.specs.declared.records.Refusal.{Refusal}
+use Rattle.drive.specs.declared.Answer.TheVariants.{Dwell}
+use Rattle.drive.specs.Drive.{telling, Driving}
+use Rattle.drive.specs.Refused.{told_anyway}
 use Rattle.drive.specs.Determined.{one_driving, one_case}
 use Rattle.change.specs.Determined.{one_change}
 use Rattle.exports.specs.Determined.{one_judgement, one_told, one_span, one_read, one_read32}
@@ -45,9 +54,9 @@ use Rattle.decimals.proofs.whole32.Reads as decimals-whole32
 use Rattle.decimals.proofs.append_natural.Reads as decimals-append_natural
 use Rattle.decimals.proofs.append_whole.Reads as decimals-append_whole
 use Rattle.decimals.proofs.append_whole32.Reads as decimals-append_whole32
-use Rattle.answers.proofs.natural.Reads as answers-natural
-use Rattle.answers.proofs.whole.Reads as answers-whole
-use Rattle.answers.proofs.whole32.Reads as answers-whole32
+use Rattle.answers.proofs.filling.SignedFromU64.from.Reads as answers-SignedFromU64-from
+use Rattle.answers.proofs.filling.SignedFromI64.from.Reads as answers-SignedFromI64-from
+use Rattle.answers.proofs.filling.SignedFromI32.from.Reads as answers-SignedFromI32-from
 use Rattle.answers.proofs.fill.Reads as answers-fill
 use Rattle.answers.proofs.entry.Reads as answers-entry
 use Rattle.lines.proofs.take.Reads as lines-take
@@ -55,6 +64,9 @@ use Rattle.lists.proofs.set.Reads as lists-set
 use Rattle.lists.proofs.append_row.Reads as lists-append_row
 use Rattle.commands.proofs.parse.Reads as commands-parse
 use Rattle.replies.proofs.append_reply.Reads as replies-append_reply
+use Rattle.rules.proofs.Cause.number.Reads as rules-Cause-number
+use Rattle.rules.proofs.Refused.by.Reads as rules-Refused-by
+use Rattle.rules.proofs.limits.Extent.mirrored.Reads as rules-Extent-mirrored
 use Rattle.rules.proofs.unit_within.Reads as rules-unit_within
 use Rattle.rules.proofs.unit.Reads as rules-unit
 use Rattle.rules.proofs.count_within.Reads as rules-count_within
@@ -67,9 +79,12 @@ use Rattle.table.proofs.points.Reads as table-points
 use Rattle.table.proofs.check.Reads as table-check
 use Rattle.table.proofs.changed_points.Reads as table-changed_points
 use Rattle.table.proofs.step.Reads as table-step
+use Rattle.table.proofs.good.GoodPoints.piece.Reads as table-GoodPoints-piece
 use Rattle.slopes.proofs.build.Reads as slopes-build
 use Rattle.slopes.proofs.renew.Reads as slopes-renew
 use Rattle.position.proofs.locate.Reads as position-locate
+use Rattle.position.proofs.find.Reads as position-find
+use Rattle.position.proofs.inside.Inside.extent.Reads as position-Inside-extent
 use Rattle.position.proofs.seek.Reads as position-seek
 use Rattle.curve.proofs.evaluate.Reads as curve-evaluate
 use Rattle.drive.proofs.float_answer.Reads as drive-float_answer
@@ -128,10 +143,38 @@ with_third κs r x = (r, x.1.1.1.0.now)
 abbrev pub with_three : {L R N X Y Z S : Type 0} → L → R → N × (MutBor X × (MutBor Y × (MutBor Z × S))) → R × (X × (Y × Z))
 with_three κs r x = (r, (x.1.0.now, (x.1.1.0.now, x.1.1.1.0.now)))
 
+-- of a slope unit its size, which is all that it has beside the proof that it is one; and what is left of slopes that stand behind a unit and good points
+abbrev pub its_size : {L S : Type 0} → L → SlopeUnit → S → ℤ
+its_size κs r x = r.size
+
+-- so of an extent its width and its rise; and of a place that is found the size of its unit and the spot, or the refusal
+abbrev pub its_numbers : {L S : Type 0} → L → Extent → S → ℤ × ℤ
+its_numbers κs r x = (r.h, r.z)
+
+abbrev pub place_or_refusal : Result Inside Refused → Result (ℤ × Spot) Refused
+place_or_refusal (Ok at) = Ok (at.unit.size, at.spot)
+place_or_refusal (Err r) = Err r
+
+abbrev pub found : {L S : Type 0} → L → Result Inside Refused → S → Result (ℤ × Spot) Refused
+found κs r x = place_or_refusal r
+
+abbrev pub with_slopes : {L R N X Z S : Type 0} → L → R → N × (X × (MutBor Z × S)) → R × Z
+with_slopes κs r x = (r, x.1.1.0.now)
+
+abbrev resting_answer : Answer
+resting_answer = Dwell (fin false 0 (pos 0))
+
+-- what stands for a place where there is none
+abbrev no_place : ℤ × Spot
+no_place = (pos 0, record { piece = 0; left = pos 0; h = pos 0; z = pos 0; m = pos 0; n = pos 0; t = pos 0 })
+
 -- ---- records, field by field
 
 one_refusal : {H : ℕ → ℕ → Type 0} {order : List ℕ} {r s : Refusal} → Given H order r.number r.place → Given H order s.number s.place → r ≡ s
 one_refusal p q = let e = one_given p q in λ i. record { number = e.0 i; place = e.1 i }
+
+one_result : {H : ℕ → ℕ → Type 0} {order : List ℕ} {r s : Result Unit Refused} → Given H order (number r) (place r) → Given H order (number s) (place s) → r ≡ s
+one_result {r = r} {s} p q = let e = one_given p q in one_answer tt r s e.0 e.1 refl
 
 one_cubic : {U h z m n : ℤ} {r s : Cubic} → Coefficients U h z m n r.first r.second r.third → Coefficients U h z m n s.first s.second s.third → r ≡ s
 one_cubic p q =
@@ -151,17 +194,25 @@ one_spot {ks} {vs} {ss} {x} {r} {s} piece f q =
     let t = p.t_is ∙ sym q.t_is in
     λ i. record { piece = piece i; left = left i; h = h i; z = z i; m = m i; n = n i; t = t i }
 
-one_sought : {ks vs ss : List ℤ} {x : ℤ} {r s : Sought} → PointsWithin ks vs → SoughtIn ks vs ss x r → SoughtIn ks vs ss x s → r ≡ s
+one_sought : {ks vs ss : List ℤ} {x : ℤ} {r s : Option Spot} → PointsWithin ks vs → SoughtIn ks vs ss x r → SoughtIn ks vs ss x s → r ≡ s
 one_sought a (outside f) (outside g) = refl
 one_sought a (outside f) (on w p) = absurd (f w)
 one_sought a (on w p) (outside f) = absurd (f w)
-one_sought a (on w p) (on v q) = ap On (one_spot (one_piece a p.belongs q.belongs) p q)
+one_sought a (on w p) (on v q) = ap Some (one_spot (one_piece a p.belongs q.belongs) p q)
 
-one_driven : {t : Table} {x : ℤ} (r s : Driven) → Driving t x r.refusal.number r.refusal.place (told_of r.answer) → Driving t x s.refusal.number s.refusal.place (told_of s.answer) → r ≡ s
+one_found : {t : Table} {x : ℤ} (r s : Result Inside Refused) → FoundAt t x r → FoundAt t x s → place_or_refusal r ≡ place_or_refusal s
+one_found (Ok a) (Ok b) p q =
+    let size = p.inside.unit_is ∙ sym q.inside.unit_is in
+    let spot = one_spot (one_piece (accepted_at refl p.refusal).limits p.inside.spot.belongs q.inside.spot.belongs) p.inside.spot q.inside.spot in
+    ap Ok (λ i. (size i, spot i))
+one_found (Ok a) (Err s) p q = absurd (never_0 s.cause (sym (one_given p.refusal q.refusal).0))
+one_found (Err r) (Ok b) p q = absurd (never_0 r.cause (one_given p.refusal q.refusal).0)
+one_found (Err r) (Err s) p q = let e = one_given p.refusal q.refusal in one_answer no_place (Err r) (Err s) e.0 e.1 refl
+
+one_driven : {t : Table} {x : ℤ} (r s : Result Answer Refused) → Driving t x (number r) (place r) (telling r) → Driving t x (number s) (place s) (telling s) → r ≡ s
 one_driven r s p q =
     let e = one_driving p q in
-    let told = one_case r.answer s.answer e.2 in
-    λ i. record { refusal = record { number = e.0 i; place = e.1 i }; answer = told i }
+    one_answer resting_answer r s e.0 e.1 (one_case (answer_or resting_answer r) (answer_or resting_answer s) (sym (told_anyway r) ∙ e.2 ∙ told_anyway s))
 
 -- ---- integers
 
@@ -216,14 +267,14 @@ decimals-append_whole32_tied = (λ κs a. tt, λ κs a r s x y p q. λ i. (one_c
 
 -- ---- answers
 
-pub answers-natural_tied : Tied answers-natural.Pre answers-natural.Post result
-answers-natural_tied = (λ κs a. tt, λ κs a r s x y p q. p ∙ sym q)
+pub answers-SignedFromU64-from_tied : Tied answers-SignedFromU64-from.Pre answers-SignedFromU64-from.Post result
+answers-SignedFromU64-from_tied = (λ κs a. tt, λ κs a r s x y p q. p ∙ sym q)
 
-pub answers-whole_tied : Tied answers-whole.Pre answers-whole.Post result
-answers-whole_tied = (λ κs a. tt, λ κs a r s x y p q. p ∙ sym q)
+pub answers-SignedFromI64-from_tied : Tied answers-SignedFromI64-from.Pre answers-SignedFromI64-from.Post result
+answers-SignedFromI64-from_tied = (λ κs a. tt, λ κs a r s x y p q. p ∙ sym q)
 
-pub answers-whole32_tied : Tied answers-whole32.Pre answers-whole32.Post result
-answers-whole32_tied = (λ κs a. tt, λ κs a r s x y p q. p ∙ sym q)
+pub answers-SignedFromI32-from_tied : Tied answers-SignedFromI32-from.Pre answers-SignedFromI32-from.Post result
+answers-SignedFromI32-from_tied = (λ κs a. tt, λ κs a r s x y p q. p ∙ sym q)
 
 pub answers-fill_tied : Tied answers-fill.Pre answers-fill.Post with_first
 answers-fill_tied = (λ κs a. tt, λ κs a r s x y p q. λ i. (one_count p q i, one_buffer p q i))
@@ -254,11 +305,20 @@ replies-append_reply_tied = (λ κs a. tt, λ κs a r s x y p q. λ i. (one_coun
 
 -- ---- rules
 
+pub rules-Cause-number_tied : Tied rules-Cause-number.Pre rules-Cause-number.Post result
+rules-Cause-number_tied = (λ κs a. tt, λ κs a r s x y p q. p ∙ sym q)
+
+pub rules-Refused-by_tied : Tied rules-Refused-by.Pre rules-Refused-by.Post result
+rules-Refused-by_tied = (λ κs a. tt, λ κs a r s x y p q. p ∙ sym q)
+
+pub rules-Extent-mirrored_tied : Tied rules-Extent-mirrored.Pre rules-Extent-mirrored.Post its_numbers
+rules-Extent-mirrored_tied = (λ κs a. tt, λ κs a r s x y p q. λ i. ((p.0 ∙ sym q.0) i, (p.1 ∙ sym q.1) i))
+
 pub rules-unit_within_tied : Tied rules-unit_within.Pre rules-unit_within.Post result
 rules-unit_within_tied = (λ κs a. tt, λ κs a r s x y p q. one_decision p q)
 
-pub rules-unit_tied : TiedWhere rules-unit.Pre rules-unit.Post result
-rules-unit_tied = λ κs a r s x y o p q. p.0 ∙ sym q.0
+pub rules-unit_tied : TiedWhere rules-unit.Pre rules-unit.Post its_size
+rules-unit_tied = λ κs a r s x y o p q. p ∙ sym q
 
 pub rules-count_within_tied : Tied rules-count_within.Pre rules-count_within.Post result
 rules-count_within_tied = (λ κs a. tt, λ κs a r s x y p q. one_decision p q)
@@ -274,46 +334,55 @@ rules-rise_within_tied = (λ κs a. tt, λ κs a r s x y p q. one_decision p q)
 pub piece-judge_tied : Tied piece-judge.Pre piece-judge.Post result
 piece-judge_tied = (λ κs a. tt, λ κs a r s x y p q. one_verdict r s p q)
 
-pub piece-is_monotone_tied : TiedWhere piece-is_monotone.Pre piece-is_monotone.Post result
-piece-is_monotone_tied = λ κs a r s x y o p q. one_decision p q
+pub piece-is_monotone_tied : Tied piece-is_monotone.Pre piece-is_monotone.Post result
+piece-is_monotone_tied = (λ κs a. tt, λ κs a r s x y p q. one_decision p q)
 
-pub piece-coefficients_tied : TiedWhere piece-coefficients.Pre piece-coefficients.Post result
-piece-coefficients_tied = λ κs a r s x y o p q. one_cubic p q
+pub piece-coefficients_tied : Tied piece-coefficients.Pre piece-coefficients.Post result
+piece-coefficients_tied = (λ κs a. tt, λ κs a r s x y p q. one_cubic p q)
 
 -- ---- table
 
 pub table-points_tied : Tied table-points.Pre table-points.Post result
-table-points_tied = (λ κs a. tt, λ κs a r s x y p q. one_refusal p q)
+table-points_tied = (λ κs a. tt, λ κs a r s x y p q. one_result p q)
 
 pub table-check_tied : Tied table-check.Pre table-check.Post result
-table-check_tied = (λ κs a. tt, λ κs a r s x y p q. one_refusal p q)
+table-check_tied = (λ κs a. tt, λ κs a r s x y p q. one_result p q)
 
 pub table-changed_points_tied : Tied table-changed_points.Pre table-changed_points.Post result
-table-changed_points_tied = (λ κs a. tt, λ κs a r s x y p q. one_refusal p q)
+table-changed_points_tied = (λ κs a. tt, λ κs a r s x y p q. one_result p q)
 
 pub table-step_tied : TiedWhere table-step.Pre table-step.Post result
 table-step_tied = λ κs a r s x y o p q. p ∙ sym q
 
+pub table-GoodPoints-piece_tied : TiedWhere table-GoodPoints-piece.Pre table-GoodPoints-piece.Post its_numbers
+table-GoodPoints-piece_tied = λ κs a r s x y o p q. λ i. ((p.0 ∙ sym q.0) i, (p.1 ∙ sym q.1) i)
+
 -- ---- slopes
 
 pub slopes-build_tied : Tied slopes-build.Pre slopes-build.Post with_third
-slopes-build_tied = (λ κs a. tt, λ κs a r s x y p q. let e = one_build p q in λ i. (record { number = e.0 i; place = e.1 i }, e.2 i))
+slopes-build_tied = (λ κs a. tt, λ κs a r s x y p q. let e = one_build p q in λ i. (one_answer tt r s e.0 e.1 refl i, e.2 i))
 
-pub slopes-renew_tied : TiedWhere slopes-renew.Pre slopes-renew.Post with_third
+pub slopes-renew_tied : TiedWhere slopes-renew.Pre slopes-renew.Post with_slopes
 slopes-renew_tied = λ κs a r s x y o p q. λ i. (tt, (p ∙ sym q) i)
 
 -- ---- position
 
 pub position-locate_tied : Tied position-locate.Pre position-locate.Post result
-position-locate_tied = (λ κs a. tt, λ κs a r s x y p q. let e = one_place p q in λ i. record { refusal = record { number = e.0 i; place = e.1 i }; piece = e.2 i })
+position-locate_tied = (λ κs a. tt, λ κs a r s x y p q. let e = one_place p q in one_answer 0 r s e.0 e.1 e.2)
+
+pub position-find_tied : Tied position-find.Pre position-find.Post found
+position-find_tied = (λ κs a. tt, λ κs a r s x y p q. one_found r s p q)
+
+pub position-Inside-extent_tied : Tied position-Inside-extent.Pre position-Inside-extent.Post its_numbers
+position-Inside-extent_tied = (λ κs a. tt, λ κs a r s x y p q. λ i. ((p.0 ∙ sym q.0) i, (p.1 ∙ sym q.1) i))
 
 pub position-seek_tied : TiedWhere position-seek.Pre position-seek.Post result
-position-seek_tied = λ κs a r s x y o p q. one_sought o.0 p q
+position-seek_tied = λ κs a r s x y o p q. one_sought a.0.within p q
 
 -- ---- curve
 
 pub curve-evaluate_tied : Tied curve-evaluate.Pre curve-evaluate.Post result
-curve-evaluate_tied = (λ κs a. tt, λ κs a r s x y p q. let e = one_evaluation p q in λ i. record { refusal = record { number = e.0 i; place = e.1 i }; value = e.2 i })
+curve-evaluate_tied = (λ κs a. tt, λ κs a r s x y p q. let e = one_evaluation p q in one_answer (pos 0) r s e.0 e.1 e.2)
 
 -- ---- drive
 
@@ -323,7 +392,7 @@ drive-float_answer_tied = (λ κs a. tt, λ κs a r s x y p q. one_driven r s p 
 -- ---- change
 
 pub change-point_tied : Tied change-point.Pre change-point.Post with_three
-change-point_tied = (λ κs a. tt, λ κs a r s x y p q. let e = one_change p q in λ i. (record { number = e.0 i; place = e.1 i }, ((e.2 i).knots, ((e.2 i).values, (e.2 i).slopes))))
+change-point_tied = (λ κs a. tt, λ κs a r s x y p q. let e = one_change p q in λ i. (one_answer tt r s e.0 e.1 refl i, ((e.2 i).knots, ((e.2 i).values, (e.2 i).slopes))))
 
 -- ---- exports
 

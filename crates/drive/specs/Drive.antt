@@ -1,9 +1,10 @@
 -- "The drive's float answer" of the exact rules, for a whole table. Whoever believes the promise of `float_answer` believes this file and what it cites: the
 -- limits, the cubic, a table and its causes, which piece a position belongs to, the refusals, and what it is for a float to be a whole number.
-use Rattle.std.specs.Prelude.{◌≡◌, List, [], ◌∷◌, false, ℕ, ◌+◌, ℤ, pos, ◌-ℤ◌, Float}
+use Rattle.std.specs.Prelude.{◌≡◌, List, [], ◌∷◌, false, ℕ, ◌+◌, ℤ, pos, ◌-ℤ◌, Float, Result, Ok, Err}
 use Rattle.std.specs.Float.{fin, binary64}
 use Rattle.floats.specs.Promise.{Exactly}
 use Rattle.cubic.specs.Value.{numerator, denominator}
+use Rattle.rules.specs.declared.Refused.{Refused}
 use Rattle.rules.specs.Limits.{unit, TooLarge}
 use Rattle.rules.specs.Refusals.{Given, Answered}
 use Rattle.table.specs.Table.{Table, entry, step}
@@ -16,8 +17,7 @@ pub data Telling : Type 0 where
   dwell : (level : Float) → Telling
   move : (left numerator denominator : Float) → Telling
 
--- What each case of the enum says in the exact rules' words, and its values. The number stands beside the enum, in the refusal, since a refused answer is a dwell
--- as well.
+-- What each case of the enum says in the exact rules' words, and its values.
 abbrev pub told_of : Answer → Telling
 told_of (Dwell level) = dwell level
 told_of (Move m) = move m.left m.numerator m.denominator
@@ -26,6 +26,11 @@ told_of (Move m) = move m.left m.numerator m.denominator
 -- `Exactly.antt` in `floats`), and no other 64-bit float is (`one_float` there).
 abbrev pub resting : Telling
 resting = dwell (fin false 0 (pos 0))
+
+-- what an answer tells, refused or not
+abbrev pub telling : Result Answer Refused → Telling
+telling (Ok a) = told_of a
+telling (Err r) = resting
 
 -- "A flat piece answers a dwell that carries its level as a 64-bit float. Any other answers a move: one record of three 64-bit floats, the left value, the
 -- numerator above and 256·h³. All three are exact whole numbers, with the numerator worked out in floats." So at the place t of a piece of width h, rise z and

@@ -20,7 +20,8 @@ use Rattle.table.specs.Accepted.{Accepted}
 use Rattle.position.specs.Position.{evaluation_order}
 use Rattle.position.specs.Pieces.{within_list}
 use Rattle.position.specs.Refused.{accepted_at}
-use Rattle.position.specs.Spot.{InPiece, inside_accepted}
+use Rattle.position.specs.InPiece.{InPiece}
+use Rattle.position.specs.Spot.{inside_accepted}
 use Rattle.position.specs.Found.{SomePiece, every_position_has_an_answer, piece_at}
 use Rattle.piece.specs.Cubic.{Coefficients, by_coefficients}
 use Rattle.drive.specs.Drive.{Telling, dwell, move, ToldIn, dwells, moves, ToldAt, HoldsFor, too_large, float_order, resting, Driving}

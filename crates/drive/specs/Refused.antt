@@ -1,6 +1,9 @@
 -- When a float answer is refused: the causes that evaluation has are asked as there.
-use Rattle.std.specs.Prelude.{◌≡◌, refl, [], ◌∷◌, ℕ, ◌+◌, ℤ, ◌-ℤ◌}
+use Rattle.std.specs.Prelude.{◌≡◌, refl, [], ◌∷◌, ℕ, ◌+◌, ℤ, pos, ◌-ℤ◌, false, Result, Ok, Err}
 use Rattle.std.proofs.Common.{subst, arith}
+use Rattle.std.specs.Float.{fin}
+use Rattle.rules.specs.declared.Refused.{Refused}
+use Rattle.rules.specs.Causes.{answer_or}
 use Rattle.rules.specs.Limits.{unit, TooLarge}
 use Rattle.rules.specs.Refusals.{Given, done, refused, passed, nothing, answered}
 use Rattle.rules.specs.Order.{Same, one_more_cause, other_way, carried, front, went_on}
@@ -9,7 +12,9 @@ use Rattle.table.specs.Accepted.{Accepted}
 use Rattle.position.specs.Position.{Belongs, HoldsAt, of_table, evaluation_order}
 use Rattle.position.specs.Pieces.{one_piece}
 use Rattle.position.specs.Refused.{accepted_at}
-use Rattle.drive.specs.Drive.{Telling, resting, ToldIn, HoldsFor, of_position, too_large, float_order, Driving}
+use Rattle.drive.specs.declared.Answer.{Answer}
+use Rattle.drive.specs.declared.Answer.TheVariants.{Dwell}
+use Rattle.drive.specs.Drive.{Telling, told_of, telling, resting, ToldIn, HoldsFor, of_position, too_large, float_order, Driving}
 
 -- what is answered in piece i, with slopes in 1/U: 8 where it is too large, and else what the drive is told
 pub data AnsweredOn (U : ℤ) (i : ℕ) (left h z m n t : ℤ) : (number place : ℕ) → Telling → Type 0 where
@@ -54,3 +59,8 @@ module _ {t : Table} {x : ℤ} where
     driving_on e g (refused_there l) = record { refusal = went_on e (as_evaluated g) (refused_large l); answer = nothing }
     driving_on e g (told_there f o) =
         record { refusal = went_on e (as_evaluated g) (taken_small f); answer = answered (record { piece = i; belongs = b; is = o }) }
+
+-- what an answer tells is what it says beside its refusal, where a dwell at 0 stands for the answer of a refused call
+pub told_anyway : (r : Result Answer Refused) → telling r ≡ told_of (answer_or (Dwell (fin false 0 (pos 0))) r)
+told_anyway (Ok a) = refl
+told_anyway (Err r) = refl

@@ -12,7 +12,7 @@ use Rattle.cubic.proofs.Horner.{horner_within}
 use Rattle.rules.specs.Limits.{WidthWithin, TooLarge}
 use Rattle.rules.specs.Known.{unit_within_256}
 use Rattle.piece.specs.Cubic.{Coefficients}
-use Rattle.position.specs.Spot.{InPiece}
+use Rattle.position.specs.InPiece.{InPiece}
 
 -- |z|·h³ is the size of z·h³
 size_is : (h z : ℤ) → WidthWithin h → magnitude (z *ℤ (h *ℤ h *ℤ h)) ≡ magnitude z *ℤ (h *ℤ h *ℤ h)

@@ -10,7 +10,8 @@ use Rattle.rules.specs.Known.{0<_unit, 0<_width}
 use Rattle.table.specs.Table.{Table}
 use Rattle.table.specs.Accepted.{Accepted}
 use Rattle.position.specs.Pieces.{one_piece}
-use Rattle.position.specs.Spot.{InPiece, inside_accepted}
+use Rattle.position.specs.InPiece.{InPiece}
+use Rattle.position.specs.Spot.{inside_accepted}
 use Rattle.curve.specs.Curve.{ValueAt, value_on}
 use Rattle.curve.specs.OnPiece.{level_risen}
 use Rattle.drive.specs.Drive.{Telling, dwell, move, ToldIn, dwells, moves, ToldAt}

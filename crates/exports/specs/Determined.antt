@@ -1,5 +1,5 @@
 -- The promise of each record that stands for an enum fixes the record: no two meet it. Every other promise here is that of the function below, or an equation.
-use Rattle.std.specs.Prelude.{◌≡◌, refl, Bool, ℕ, ℤ, Float}
+use Rattle.std.specs.Prelude.{◌≡◌, refl, Bool, ℕ, ℤ, Float, Option, Result}
 use Rattle.std.proofs.Common.{ap}
 use Rattle.floats.proofs.Exactly.{one_float}
 use Rattle.piece.specs.Promise.{Ruling, ruling}
@@ -7,14 +7,13 @@ use Rattle.piece.specs.Determined.{one_ruling}
 use Rattle.table.specs.Table.{Table}
 use Rattle.drive.specs.Determined.{one_driving}
 use Rattle.words.specs.declared.split.Word.{Word}
-use Rattle.decimals.specs.declared.reading.Number.{Number}
-use Rattle.decimals.specs.declared.reading.Number32.{Number32}
+use Rattle.decimals.specs.declared.reading.NotNumber.{NotNumber}
 use Rattle.exports.specs.declared.answers.Judgement.{Judgement}
 use Rattle.exports.specs.declared.answers.Told.{Told}
 use Rattle.exports.specs.declared.text.Span.{Span}
 use Rattle.exports.specs.declared.text.Read.{Read}
 use Rattle.exports.specs.declared.text.Read32.{Read32}
-use Rattle.exports.specs.Cases.{verdict_number, JudgedAs, judged, DrivenAs, dwells, moves, WordAs, found, nothing, NumberAs, Number32As}
+use Rattle.exports.specs.Cases.{verdict_number, JudgedAs, judged, DrivenAs, dwells, moves, WordAs, found, nothing, NumberAs, whole, not_decimal, too_large}
 
 -- ---- a verdict
 
@@ -45,22 +44,24 @@ one_told (moves d) (moves e) = let s = one_driving d e in cc (s.0, s.1, s.2)
 abbrev span : Bool → ℕ → ℕ → Span
 span is start end = record { found = is; start = start; end = end }
 
-pub one_span : {w : Word} {f g : Bool} {a b c d : ℕ} → WordAs w f a b → WordAs w g c d → span f a b ≡ span g c d
+pub one_span : {w : Option Word} {f g : Bool} {a b c d : ℕ} → WordAs w f a b → WordAs w g c d → span f a b ≡ span g c d
 one_span found found = refl
 one_span nothing nothing = refl
+
+-- two records of a number agree in both parts
+pub one_number : {n : Result ℤ NotNumber} {j k : ℕ} {x y : ℤ} → NumberAs n j x → NumberAs n k y → (j ≡ k) × (x ≡ y)
+one_number whole whole = (refl, refl)
+one_number not_decimal not_decimal = (refl, refl)
+one_number too_large too_large = (refl, refl)
 
 abbrev read : ℕ → ℤ → Read
 read kind value = record { kind = kind; value = value }
 
-pub one_read : {n : Number} {j k : ℕ} {x y : ℤ} → NumberAs n j x → NumberAs n k y → read j x ≡ read k y
-one_read NumberAs.whole NumberAs.whole = refl
-one_read NumberAs.not_decimal NumberAs.not_decimal = refl
-one_read NumberAs.too_large NumberAs.too_large = refl
+pub one_read : {n : Result ℤ NotNumber} {j k : ℕ} {x y : ℤ} → NumberAs n j x → NumberAs n k y → read j x ≡ read k y
+one_read p q = let e = one_number p q in λ i. read (e.0 i) (e.1 i)
 
 abbrev read32 : ℕ → ℤ → Read32
 read32 kind value = record { kind = kind; value = value }
 
-pub one_read32 : {n : Number32} {j k : ℕ} {x y : ℤ} → Number32As n j x → Number32As n k y → read32 j x ≡ read32 k y
-one_read32 Number32As.whole Number32As.whole = refl
-one_read32 Number32As.not_decimal Number32As.not_decimal = refl
-one_read32 Number32As.too_large Number32As.too_large = refl
+pub one_read32 : {n : Result ℤ NotNumber} {j k : ℕ} {x y : ℤ} → NumberAs n j x → NumberAs n k y → read32 j x ≡ read32 k y
+one_read32 p q = let e = one_number p q in λ i. read32 (e.0 i) (e.1 i)

@@ -4,22 +4,13 @@ ghost use Rattle.position.specs.Position.{Located};
 ghost use Rattle.curve.specs.Curve.{Evaluated};
 ghost use Rattle.exports.specs.Cases.{JudgedAs, DrivenAs};
 
-use curve::Value;
+use crate::kinds::numbered;
+use crate::records::{Refusal, crossed, done, refusal_of};
 use drive::Answer;
-use piece::Verdict;
-use position::Place;
-use rules::Refusal;
+use table::Table;
 
-// The verdicts' numbers; none where the piece is refused.
+// No verdict, where the piece is refused.
 const NONE: u32 = 0;
-
-const RISING: u32 = 1;
-
-const FALLING: u32 = 2;
-
-const FLAT: u32 = 3;
-
-const BENDS: u32 = 4;
 
 // What the drive is told.
 const DWELL: u32 = 0;
@@ -45,32 +36,32 @@ pub struct Told {
     pub denominator: f64,
 }
 
+// A position's piece, or the refusal and piece 0.
+#[repr(C)]
+#[derive(Clone, Copy)]
+pub struct Place {
+    pub refusal: Refusal,
+    pub piece: usize,
+}
+
+// The value at a position, or the refusal and the value 0.
+#[repr(C)]
+#[derive(Clone, Copy)]
+pub struct Value {
+    pub refusal: Refusal,
+    pub value: i32,
+}
+
 pub fn negwafir_judge(s: u32, h: i64, z: i64, m: i32, n: i32) -> Judgement
     ensures { JudgedAs s h z m n result.refusal.number result.refusal.place result.verdict }
 {
-    let done = Refusal {
-        number: rules::DONE,
-        place: 0,
-    };
     match piece::judge(s, h, z, m, n) {
-        Verdict::Rising => Judgement {
-            refusal: done,
-            verdict: RISING,
+        Ok(verdict) => Judgement {
+            refusal: done(),
+            verdict: numbered(verdict),
         },
-        Verdict::Falling => Judgement {
-            refusal: done,
-            verdict: FALLING,
-        },
-        Verdict::Flat => Judgement {
-            refusal: done,
-            verdict: FLAT,
-        },
-        Verdict::Bends => Judgement {
-            refusal: done,
-            verdict: BENDS,
-        },
-        Verdict::Refused(refusal) => Judgement {
-            refusal,
+        Err(refused) => Judgement {
+            refusal: refusal_of(refused),
             verdict: NONE,
         },
     }
@@ -85,7 +76,14 @@ pub fn negwafir_locate(
 ) -> Place
     ensures { Located (table s knots.now values.now slopes.now) position result.refusal.number result.refusal.place result.piece }
 {
-    position::locate(s, knots, values, slopes, position)
+    let table = Table {
+        s,
+        knots,
+        values,
+        slopes,
+    };
+    let (refusal, piece) = crossed(position::locate(table, position), 0);
+    Place { refusal, piece }
 }
 
 pub fn negwafir_evaluate(
@@ -97,7 +95,14 @@ pub fn negwafir_evaluate(
 ) -> Value
     ensures { Evaluated (table s knots.now values.now slopes.now) position result.refusal.number result.refusal.place result.value }
 {
-    curve::evaluate(s, knots, values, slopes, position)
+    let table = Table {
+        s,
+        knots,
+        values,
+        slopes,
+    };
+    let (refusal, value) = crossed(curve::evaluate(table, position), 0);
+    Value { refusal, value }
 }
 
 pub fn negwafir_float_answer(
@@ -109,9 +114,13 @@ pub fn negwafir_float_answer(
 ) -> Told
     ensures { DrivenAs (table s knots.now values.now slopes.now) position result.refusal.number result.refusal.place result.kind result.left result.numerator result.denominator }
 {
-    let driven = drive::float_answer(s, knots, values, slopes, position);
-    let refusal = driven.refusal;
-    let answer = driven.answer;
+    let table = Table {
+        s,
+        knots,
+        values,
+        slopes,
+    };
+    let (refusal, answer) = crossed(drive::float_answer(table, position), Answer::Dwell(0.0));
     match answer {
         Answer::Dwell(level) => Told {
             refusal,

@@ -5,19 +5,29 @@ ghost use Rattle.table.specs.WouldBe.{HoldsAfter, change_order};
 ghost use Rattle.slopes.specs.Slopes.{Built};
 ghost use Rattle.change.specs.Change.{Changed};
 
-use rules::Refusal;
-use table::Change;
+use crate::records::{Refusal, settled};
+use table::{Change, Table};
 
 pub fn negwafir_points(s: u32, knots: &[i32], values: &[i32], slopes: &[i32]) -> Refusal
     ensures { Given (Holds (table s knots.now values.now slopes.now)) build_order result.number result.place }
 {
-    table::points(s, knots, values, slopes)
+    settled(table::points(Table {
+        s,
+        knots,
+        values,
+        slopes,
+    }))
 }
 
 pub fn negwafir_check(s: u32, knots: &[i32], values: &[i32], slopes: &[i32]) -> Refusal
     ensures { Given (Holds (table s knots.now values.now slopes.now)) check_order result.number result.place }
 {
-    table::check(s, knots, values, slopes)
+    settled(table::check(Table {
+        s,
+        knots,
+        values,
+        slopes,
+    }))
 }
 
 pub fn negwafir_changed_points(
@@ -29,13 +39,19 @@ pub fn negwafir_changed_points(
 ) -> Refusal
     ensures { Given (HoldsAfter change (table s knots.now values.now slopes.now)) change_order result.number result.place }
 {
-    table::changed_points(s, knots, values, slopes, change)
+    let table = Table {
+        s,
+        knots,
+        values,
+        slopes,
+    };
+    settled(table::changed_points(table, change))
 }
 
 pub fn negwafir_build(s: u32, knots: &[i32], values: &[i32], slopes: &mut [i32]) -> Refusal
     ensures { Built (table s knots.now values.now slopes.old) slopes.new result.number result.place }
 {
-    slopes::build(s, knots, values, slopes)
+    settled(slopes::build(s, knots, values, slopes))
 }
 
 pub fn negwafir_change_point(
@@ -47,5 +63,5 @@ pub fn negwafir_change_point(
 ) -> Refusal
     ensures { Changed change (table s knots.old values.old slopes.old) (table s knots.new values.new slopes.new) result.number result.place }
 {
-    change::point(s, knots, values, slopes, change)
+    settled(change::point(s, knots, values, slopes, change))
 }

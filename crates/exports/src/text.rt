@@ -1,20 +1,15 @@
-// Words out of lines of bytes, and whole decimal numbers out of words and into them.
+// Words out of lines of bytes, and whole decimal numbers out of words and into them. What reads and writes 32 bits stands beside what does 64, as C has a record and a name for each.
 ghost use Rattle.std.specs.Prelude.{◌≡◌, length, drop};
 ghost use Rattle.words.specs.Lines.{first_of, without_return, Appended};
 ghost use Rattle.words.specs.Words.{next_word, words_of, part_of};
 ghost use Rattle.decimals.specs.Decimal.{number_of, number32_of};
 ghost use Rattle.decimals.specs.Text.{decimal_of, text_of};
-ghost use Rattle.exports.specs.Cases.{WordAs, NumberAs, Number32As};
+ghost use Rattle.exports.specs.Cases.{WordAs, NumberAs};
 
-use decimals::{Number, Number32};
-use words::Word;
+use crate::kinds::kind_of;
 
-// What text says as a number.
+// The text says a number.
 const WHOLE: u32 = 0;
-
-const NOT_DECIMAL: u32 = 1;
-
-const TOO_LARGE: u32 = 2;
 
 // A word of a line, from its first position to the one after its last; or none, and 0 for both.
 #[repr(C)]
@@ -64,12 +59,12 @@ pub fn negwafir_next_word(line: &[u8], from: usize) -> Span
     ensures { WordAs (next_word line.now from) result.found result.start result.end }
 {
     match words::next_word(line, from) {
-        Word::At { start, end } => Span {
+        Some(word) => Span {
             found: true,
-            start,
-            end,
+            start: word.start,
+            end: word.end,
         },
-        Word::Nothing => Span {
+        None => Span {
             found: false,
             start: 0,
             end: 0,
@@ -94,29 +89,21 @@ pub fn negwafir_whole(text: &[u8]) -> Read
     ensures { NumberAs (number_of text.now) result.kind result.value }
 {
     match decimals::whole(text) {
-        Number::Is(value) => Read { kind: WHOLE, value },
-        Number::NotDecimal => Read {
-            kind: NOT_DECIMAL,
-            value: 0,
-        },
-        Number::TooLarge => Read {
-            kind: TOO_LARGE,
+        Ok(value) => Read { kind: WHOLE, value },
+        Err(why) => Read {
+            kind: kind_of(why),
             value: 0,
         },
     }
 }
 
 pub fn negwafir_whole32(text: &[u8]) -> Read32
-    ensures { Number32As (number32_of text.now) result.kind result.value }
+    ensures { NumberAs (number32_of text.now) result.kind result.value }
 {
     match decimals::whole32(text) {
-        Number32::Is(value) => Read32 { kind: WHOLE, value },
-        Number32::NotDecimal => Read32 {
-            kind: NOT_DECIMAL,
-            value: 0,
-        },
-        Number32::TooLarge => Read32 {
-            kind: TOO_LARGE,
+        Ok(value) => Read32 { kind: WHOLE, value },
+        Err(why) => Read32 {
+            kind: kind_of(why),
             value: 0,
         },
     }

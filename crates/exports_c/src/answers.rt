@@ -4,9 +4,7 @@ ghost use Rattle.position.specs.Position.{Located};
 ghost use Rattle.curve.specs.Curve.{Evaluated};
 ghost use Rattle.exports.specs.Cases.{JudgedAs, DrivenAs};
 
-use curve::Value;
-use exports::{Judgement, Told};
-use position::Place;
+use exports::{Judgement, Place, Told, Value};
 
 #[unsafe(no_mangle)]
 pub extern "C" fn negwafir_judge(s: u32, h: i64, z: i64, m: i32, n: i32) -> Judgement

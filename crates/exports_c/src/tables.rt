@@ -5,7 +5,7 @@ ghost use Rattle.table.specs.WouldBe.{HoldsAfter, change_order};
 ghost use Rattle.slopes.specs.Slopes.{Built};
 ghost use Rattle.change.specs.Change.{Changed};
 
-use rules::Refusal;
+use exports::Refusal;
 use table::Change;
 
 #[unsafe(no_mangle)]

@@ -4,7 +4,7 @@ ghost use Rattle.words.specs.Lines.{first_of, without_return, Appended};
 ghost use Rattle.words.specs.Words.{next_word, words_of, part_of};
 ghost use Rattle.decimals.specs.Decimal.{number_of, number32_of};
 ghost use Rattle.decimals.specs.Text.{decimal_of, text_of};
-ghost use Rattle.exports.specs.Cases.{WordAs, NumberAs, Number32As};
+ghost use Rattle.exports.specs.Cases.{WordAs, NumberAs};
 
 use exports::{Read, Read32, Span};
 
@@ -59,7 +59,7 @@ pub extern "C" fn negwafir_whole(text: &[u8]) -> Read
 
 #[unsafe(no_mangle)]
 pub extern "C" fn negwafir_whole32(text: &[u8]) -> Read32
-    ensures { Number32As (number32_of text.now) result.kind result.value }
+    ensures { NumberAs (number32_of text.now) result.kind result.value }
 {
     exports::negwafir_whole32(text)
 }

@@ -1,6 +1,5 @@
 pub mod Lists
 pub mod Next
-pub mod Placing
 pub mod Rows
 pub mod Determined
 pub mod Examples

@@ -1,14 +1,13 @@
 -- What the words of a line say as a list of numbers of 32 bits, and what a list says as text. A word is the list of its bytes.
-use Rattle.std.specs.Prelude.{ℕ, ◌≡◌, List, [], ◌∷◌, ◌++◌, ℤ, length, take, drop}
-use Rattle.decimals.specs.declared.reading.Number32
+use Rattle.std.specs.Prelude.{ℕ, ◌≡◌, List, [], ◌∷◌, ◌++◌, ℤ, length, take, drop, Result, Ok, Err}
+use Rattle.decimals.specs.declared.reading.NotNumber.{NotNumber}
 use Rattle.decimals.specs.Decimal.{number32_of}
 use Rattle.decimals.specs.Text.{text_of}
 
 -- a number before others, and nothing where it is none
-abbrev pub before : Number32.Number32 → List ℤ → List ℤ
-before (Number32.TheVariants.Is n) ns = n ∷ ns
-before Number32.TheVariants.NotDecimal ns = []
-before Number32.TheVariants.TooLarge ns = []
+abbrev pub before : Result ℤ NotNumber → List ℤ → List ℤ
+before (Ok n) ns = n ∷ ns
+before (Err e) ns = []
 
 -- the numbers that words say, up to the first word that is none
 unfoldable pub numbers_of : List (List ℕ) → List ℤ

@@ -1,236 +1,102 @@
-// The three lists of the workbench and its slope unit, and what the commands do with them. What sets a list or changes the table is lent the lists to be changed; all others only read them.
-use crate::feed::LONGEST;
-use crate::{Input, Kept, say};
-use commands::{Command, List};
-use lists::ROOM;
+// The three lists of the workbench and its slope unit, and what the commands do with them.
+use crate::feed::Line;
+use crate::row::Row;
+use crate::say;
+use commands::{Command, List, Point};
 use replies::Reply;
-use rules::Refusal;
-use table::Change;
+use rules::Refused;
+use std::io;
+use table::{Change, Table};
 
-// A number that no point of any table has.
-const NO_POINT: usize = 18446744073709551615;
-
-// The lists are empty, and slopes are in units of 1/2^8.
-pub fn empty() -> Kept {
-    Kept {
-        knots: 0,
-        values: 0,
-        slopes: 0,
-        unit: 8,
-        written: true,
-    }
-}
-
-// Answers the line that is held, once it is whole.
-pub fn answer(
-    rt: &(impl Print + Eprint),
-    held: &[u8; LONGEST],
-    input: Input,
-    knots: &mut [i32; ROOM],
-    values: &mut [i32; ROOM],
-    slopes: &mut [i32; ROOM],
-    kept: Kept,
-) -> Kept {
-    let line = line_of(held, input);
-    match commands::parse(line) {
-        Command::Set(list) => set(rt, list, line, knots, values, slopes, kept),
-        command => other(rt, command, input.number, knots, values, slopes, kept),
-    }
-}
-
-// The line, without the CR that may end it; nothing as long as it is not whole.
-fn line_of(held: &[u8; LONGEST], input: Input) -> &[u8] {
-    if input.whole {
-        return words::content(words::part(held, 0, input.held));
-    }
-    words::part(held, 0, 0)
-}
-
-// `knots N..` and its like: sets a list to the numbers of the line, all of which are known to be good.
-fn set(
-    rt: &(impl Print + Eprint),
-    list: List,
-    line: &[u8],
-    knots: &mut [i32; ROOM],
-    values: &mut [i32; ROOM],
-    slopes: &mut [i32; ROOM],
-    kept: Kept,
-) -> Kept {
-    let n = match list {
-        List::Knots => lists::set(knots, line),
-        List::Values => lists::set(values, line),
-        List::Slopes => lists::set(slopes, line),
-    };
-    reply(rt, holding(kept, list, n), Reply::Count(n))
-}
-
-// The list holds n numbers now.
-fn holding(before: Kept, list: List, n: usize) -> Kept {
-    let mut kept = before;
-    match list {
-        List::Knots => kept.knots = n,
-        List::Values => kept.values = n,
-        List::Slopes => kept.slopes = n,
-    }
-    kept
-}
-
-// What changes the table, and what only reads it.
-fn other(
-    rt: &(impl Print + Eprint),
-    command: Command,
-    number: u64,
-    knots: &mut [i32; ROOM],
-    values: &mut [i32; ROOM],
-    slopes: &mut [i32; ROOM],
-    kept: Kept,
-) -> Kept {
-    match command {
-        Command::Build => build(rt, knots, values, slopes, kept),
-        Command::Change(point) => change(rt, wanted(point), knots, values, slopes, kept),
-        _ => read(rt, command, number, knots, values, slopes, kept),
-    }
-}
-
-// `build`: makes the slopes out of the knots and the values.
-fn build(
-    rt: &(impl Print + Eprint),
-    knots: &[i32; ROOM],
-    values: &[i32; ROOM],
-    slopes: &mut [i32],
-    kept: Kept,
-) -> Kept {
-    let done = slopes::build(
-        kept.unit,
-        front(knots, kept.knots),
-        front(values, kept.values),
-        front_to_change(slopes, kept.slopes),
-    );
-    reply(rt, kept, Reply::Done(done))
-}
-
-// `change K X V`: gives point K the knot X and the value V.
-fn change(
-    rt: &(impl Print + Eprint),
-    wanted: Change,
-    knots: &mut [i32],
-    values: &mut [i32],
-    slopes: &mut [i32],
-    kept: Kept,
-) -> Kept {
-    let done = change::point(
-        kept.unit,
-        front_to_change(knots, kept.knots),
-        front_to_change(values, kept.values),
-        front_to_change(slopes, kept.slopes),
-        wanted,
-    );
-    reply(rt, kept, Reply::Done(done))
-}
-
-fn wanted(point: commands::Point) -> Change {
-    Change {
-        point: numbered(point.number),
-        knot: point.knot,
-        value: point.value,
-    }
-}
-
-// The number as one of a point. No point has a negative one.
-fn numbered(k: i64) -> usize {
-    if k < 0 {
-        return NO_POINT;
-    }
-    k as usize
-}
-
-// Every other command, which changes no list.
-fn read(
-    rt: &(impl Print + Eprint),
-    command: Command,
-    number: u64,
-    knots: &[i32; ROOM],
-    values: &[i32; ROOM],
-    slopes: &[i32; ROOM],
-    kept: Kept,
-) -> Kept {
-    let k = front(knots, kept.knots);
-    let v = front(values, kept.values);
-    let s = front(slopes, kept.slopes);
-    if let Command::Show(list) = command {
-        return show(rt, kept, list, k, v, s);
-    }
-    if let Command::SetUnit(unit) = command {
-        return set_unit(rt, kept, unit);
-    }
-    reply(rt, kept, answer_to(command, number, kept.unit, k, v, s))
-}
-
-fn answer_to(
-    command: Command,
-    number: u64,
+#[derive(Drop)]
+pub struct Desk {
+    knots: Row,
+    values: Row,
+    slopes: Row,
     unit: u32,
-    knots: &[i32],
-    values: &[i32],
-    slopes: &[i32],
-) -> Reply {
-    match command {
-        Command::Wrong(fault) => Reply::Wrong(number, fault),
-        Command::Piece(p) => Reply::Judged(piece::judge(unit, p.h, p.z, p.m, p.n)),
-        Command::Check => Reply::Done(table::check(unit, knots, values, slopes)),
-        Command::At(x) => Reply::Valued(curve::evaluate(unit, knots, values, slopes, x)),
-        Command::Drive(x) => Reply::Driven(drive::float_answer(unit, knots, values, slopes, x)),
-        Command::ShowUnit => Reply::SlopeUnit(unit),
-        _ => Reply::Silent,
+}
+
+impl Desk {
+    // The lists are empty, and slopes are in units of 1/2^8.
+    pub fn empty() -> Desk {
+        Desk {
+            knots: Row::empty(),
+            values: Row::empty(),
+            slopes: Row::empty(),
+            unit: 8,
+        }
     }
-}
 
-// `show LIST`: the numbers of a list.
-fn show(
-    rt: &(impl Print + Eprint),
-    before: Kept,
-    list: List,
-    knots: &[i32],
-    values: &[i32],
-    slopes: &[i32],
-) -> Kept {
-    let mut kept = before;
-    kept.written = match list {
-        List::Knots => say::row(rt, knots),
-        List::Values => say::row(rt, values),
-        List::Slopes => say::row(rt, slopes),
-    };
-    kept
-}
-
-// `unit S`: the unit of the slopes from now on. It asks nothing of the table.
-fn set_unit(rt: &(impl Print + Eprint), before: Kept, unit: u32) -> Kept {
-    let mut kept = before;
-    kept.unit = unit;
-    let done = Refusal {
-        number: rules::DONE,
-        place: 0,
-    };
-    reply(rt, kept, Reply::Done(done))
-}
-
-fn reply(rt: &(impl Print + Eprint), before: Kept, reply: Reply) -> Kept {
-    let mut kept = before;
-    kept.written = say::reply(rt, reply);
-    kept
-}
-
-// The first n numbers of a list. No list is said to hold more than it has room for; the test lets the prover see that it does no harm.
-fn front(list: &[i32], n: usize) -> &[i32] {
-    if list.len() < n {
-        return list;
+    // Does what the line asks for, and writes the answer.
+    pub fn answer(&mut self, rt: &impl Print, line: Line<'_>) -> io::Result<()> {
+        let reply = match commands::parse(line.content) {
+            Err(fault) => Reply::Wrong(line.number, fault),
+            Ok(Command::Nothing) => Reply::Silent,
+            Ok(Command::Set(list)) => Reply::Count(self.list_mut(list).set(line.content)),
+            Ok(Command::Show(list)) => return say::row(rt, self.list(list).front()),
+            Ok(Command::Piece(p)) => Reply::Judged(piece::judge(self.unit, p.h, p.z, p.m, p.n)),
+            Ok(Command::Build) => Reply::Done(self.build()),
+            Ok(Command::Check) => Reply::Done(table::check(self.table())),
+            Ok(Command::At(x)) => Reply::Valued(curve::evaluate(self.table(), x)),
+            Ok(Command::Drive(x)) => Reply::Driven(drive::float_answer(self.table(), x)),
+            Ok(Command::Change(point)) => Reply::Done(self.change(point)),
+            Ok(Command::SetUnit(unit)) => {
+                // It asks nothing of the table.
+                self.unit = unit;
+                Reply::Done(Ok(()))
+            }
+            Ok(Command::ShowUnit) => Reply::SlopeUnit(self.unit),
+        };
+        say::reply(rt, reply)
     }
-    &list[..n]
-}
 
-fn front_to_change(list: &mut [i32], n: usize) -> &mut [i32] {
-    if list.len() < n {
-        return list;
+    fn table(&self) -> Table<'_> {
+        Table {
+            s: self.unit,
+            knots: self.knots.front(),
+            values: self.values.front(),
+            slopes: self.slopes.front(),
+        }
     }
-    &mut list[..n]
+
+    fn list(&self, list: List) -> &Row {
+        match list {
+            List::Knots => &self.knots,
+            List::Values => &self.values,
+            List::Slopes => &self.slopes,
+        }
+    }
+
+    fn list_mut(&mut self, list: List) -> &mut Row {
+        match list {
+            List::Knots => &mut self.knots,
+            List::Values => &mut self.values,
+            List::Slopes => &mut self.slopes,
+        }
+    }
+
+    // `build`: makes the slopes out of the knots and the values.
+    fn build(&mut self) -> Result<(), Refused> {
+        slopes::build(
+            self.unit,
+            self.knots.front(),
+            self.values.front(),
+            self.slopes.front_mut(),
+        )
+    }
+
+    // `change K X V`: gives point K the knot X and the value V. No point has a negative number, nor the largest that there is, which stands for those.
+    fn change(&mut self, to: Point) -> Result<(), Refused> {
+        change::point(
+            self.unit,
+            self.knots.front_mut(),
+            self.values.front_mut(),
+            self.slopes.front_mut(),
+            Change {
+                point: usize::try_from(to.number).unwrap_or(usize::MAX),
+                knot: to.knot,
+                value: to.value,
+            },
+        )
+    }
 }

@@ -1,6 +1,7 @@
 -- The coefficients of a piece's cubic, "a·t·h² + (3Z − 2a − b)·t²·h + (a + b − 2Z)·t³". Here Z = U·z, a = m·h and b = n·h, with U the slope unit.
 use Rattle.std.specs.Prelude.{◌≡◌, refl, ℤ, pos, ◌+ℤ◌, ◌-ℤ◌, ◌*ℤ◌}
-use Rattle.std.proofs.Common.{◌∙◌}
+use Rattle.std.proofs.Common.{◌∙◌, SFits, to_z, of_z, to_z-of_z}
+use Rattle.std.specs.Int.{w32}
 use Rattle.integers.specs.Arguments.{same₄}
 use Rattle.cubic.specs.Value.{numerator}
 use Rattle.cubic.specs.Horner.{by_horner}
@@ -24,6 +25,10 @@ of_units {first = first} {second} {third} u e f g =
       second_is = same₄ (λ (Z a b _ : ℤ). second ≡ pos 3 *ℤ Z -ℤ pos 2 *ℤ a -ℤ b) {u = pos 0} u.rise_is u.a_is u.b_is refl f;
       third_is = same₄ (λ (Z a b _ : ℤ). third ≡ a +ℤ b -ℤ pos 2 *ℤ Z) {u = pos 0} u.rise_is u.a_is u.b_is refl g;
     }
+
+-- of a piece as it is handed on
+pub as_handed : {U h z m n h' z' first second third : ℤ} → h' ≡ h → z' ≡ z → SFits w32 m → SFits w32 n → Coefficients U h' z' (to_z w32 (of_z w32 m)) (to_z w32 (of_z w32 n)) first second third → Coefficients U h z m n first second third
+as_handed {U} {first = first} {second} {third} e f m n = same₄ (λ (h z m n : ℤ). Coefficients U h z m n first second third) e f (to_z-of_z m) (to_z-of_z n)
 
 -- Horner's steps over them give the cubic
 pub by_coefficients : {U h z m n first second third : ℤ} → Coefficients U h z m n first second third → (t : ℤ) → by_horner first second third t h ≡ numerator U h z m n t

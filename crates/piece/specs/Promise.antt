@@ -1,10 +1,12 @@
 -- What the exact rules answer of one piece. Whoever believes the promise of `judge` believes this file, the limits, and the definition of a
 -- monotone piece.
-use Rattle.std.specs.Prelude.{ℕ, zero, suc, ℤ, pos, negsuc}
+use Rattle.std.specs.Prelude.{ℕ, zero, suc, ℤ, pos, negsuc, Result, Ok, Err}
 use Rattle.cubic.specs.Piece.{Monotone}
 use Rattle.rules.specs.Limits.{unit, UnitWithin, WidthWithin, RiseWithin}
 use Rattle.piece.specs.declared.Verdict.{Verdict}
-use Rattle.piece.specs.declared.Verdict.TheVariants.{Rising, Falling, Flat, Bends, Refused}
+use Rattle.piece.specs.declared.Verdict.TheVariants.{Rising, Falling, Flat, Bends}
+use Rattle.rules.specs.declared.Refused.{Refused}
+use Rattle.rules.specs.Causes.{number_of}
 
 -- "The verdicts are rising, falling, flat and bends"; a refusal has "none of the four verdicts".
 pub data Finding : Type 0 where
@@ -14,13 +16,13 @@ pub data Finding : Type 0 where
 pub data Ruling : Type 0 where
   ruling : ℕ → ℕ → Finding → Ruling
 
--- The exact rules' number, place and verdict for each case of the enum.
-abbrev pub ruling_of : Verdict → Ruling
-ruling_of Rising = ruling 0 0 rising
-ruling_of Falling = ruling 0 0 falling
-ruling_of Flat = ruling 0 0 flat
-ruling_of Bends = ruling 0 0 bends
-ruling_of (Refused r) = ruling r.number r.place none
+-- The exact rules' number, place and verdict for each answer.
+abbrev pub ruling_of : Result Verdict Refused → Ruling
+ruling_of (Ok Rising) = ruling 0 0 rising
+ruling_of (Ok Falling) = ruling 0 0 falling
+ruling_of (Ok Flat) = ruling 0 0 flat
+ruling_of (Ok Bends) = ruling 0 0 bends
+ruling_of (Err r) = ruling (number_of r.cause) r.place none
 
 -- A monotone piece is called by the sign of its rise.
 abbrev pub leaning : ℤ → Finding

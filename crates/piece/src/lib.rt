@@ -5,22 +5,19 @@ ghost use Rattle.integers.specs.Promise.{Decided};
 ghost use Rattle.integers.specs.Within.{Within};
 ghost use Rattle.cubic.specs.Piece.{NeverAgainst, Monotone};
 ghost use Rattle.cubic.specs.OneTest.{SquareWithin};
-ghost use Rattle.rules.specs.Limits.{WidthWithin, RiseWithin};
-ghost use Rattle.rules.specs.Known.{UnitSize};
 ghost use Rattle.piece.specs.Promise.{Judged, ruling_of};
 ghost use Rattle.piece.specs.Sizes.{WithSign, Moderate, Low};
 ghost use Rattle.piece.specs.Cubic.{UnitsOf, Coefficients};
 
-use rules::Refusal;
+use rules::{Cause, Extent, Refused, SlopeUnit};
 
-// What is answered of one piece.
-#[derive(Clone, Copy)]
+// What is answered of a piece within the limits.
+#[derive(Clone, Copy, PartialEq, Eq)]
 pub enum Verdict {
     Rising,
     Falling,
     Flat,
     Bends,
-    Refused(Refusal),
 }
 
 // The cubic of a piece, first·t·h² + second·t²·h + third·t³, by its coefficients.
@@ -40,17 +37,17 @@ struct Units {
 }
 
 // Z = U·z, a = m·h and b = n·h, of a piece within the limits, or turned, where U is the slope unit.
-fn in_units(unit: i64, h: i64, z: i64, m: i32, n: i32) -> Units
-    requires unit_size { UnitSize unit }
+fn in_units(unit: SlopeUnit, h: i64, z: i64, m: i32, n: i32) -> Units
     requires within { Within 1024 h }
     requires within_2 { Within 1048576 z }
-    ensures units_of { UnitsOf unit h z m n result.rise result.a result.b }
+    ensures units_of { UnitsOf unit.size h z m n result.rise result.a result.b }
     ensures moderate { Moderate result.rise result.a result.b }
 {
-    let rise = unit * z;
-    let a = (m as i64) * h;
-    let b = (n as i64) * h;
-    Units { rise, a, b }
+    Units {
+        rise: unit.size * z,
+        a: i64::from(m) * h,
+        b: i64::from(n) * h,
+    }
 }
 
 // x, with the other sign where `sign` is negative.
@@ -58,10 +55,7 @@ fn turned(sign: i64, x: i64) -> i64
     requires { Within 3000000000 x }
     ensures { WithSign sign x result }
 {
-    if sign < 0 {
-        return -x;
-    }
-    x
+    if sign < 0 { -x } else { x }
 }
 
 // Fritsch and Carlson's last test, of a and b from 0 on, from what they have over 3Z, squared with its sign: where that is below 0 the test holds. The callers' sizes leave
@@ -80,77 +74,54 @@ fn never_against(rise: i64, a: i64, b: i64) -> bool
     requires { Moderate rise a b }
     ensures { Decided (NeverAgainst rise a b) result }
 {
-    if !integers::between(0, a, 4 * rise) {
-        return false;
-    }
-    if !integers::between(0, b, 4 * rise) {
-        return false;
-    }
-    square_within(a + b - 3 * rise, a, b)
+    integers::between(0, a, 4 * rise)
+        && integers::between(0, b, 4 * rise)
+        && square_within(a + b - 3 * rise, a, b)
 }
 
-// Whether a piece within the limits is monotone, with slopes in 1/unit: the one test, of the piece turned so that it does not fall.
-pub fn is_monotone(unit: i64, h: i64, z: i64, m: i32, n: i32) -> bool
-    requires unit_size { UnitSize unit }
-    requires width_within { WidthWithin h }
-    requires rise_within { RiseWithin z }
-    ensures { Decided (Monotone unit h z m n) result }
+// Whether a piece is monotone, with slopes in 1/unit: the one test, of the piece turned so that it does not fall.
+pub fn is_monotone(unit: SlopeUnit, extent: Extent, m: i32, n: i32) -> bool
+    ensures { Decided (Monotone unit.size extent.h extent.z m n) result }
 {
+    let Extent { h, z } = extent;
     let u = in_units(unit, turned(z, h), turned(z, z), m, n);
     never_against(u.rise, u.a, u.b)
 }
 
 // The verdict on the piece of width h and rise z with the slopes m and n at its ends, in 1/2^s of a value per count, or its refusal, at place 0: by 12 where s is above 8,
 // else by 3 where the width, else by 4 where the rise is outside its limits.
-pub fn judge(s: u32, h: i64, z: i64, m: i32, n: i32) -> Verdict
+pub fn judge(s: u32, h: i64, z: i64, m: i32, n: i32) -> Result<Verdict, Refused>
     ensures { Judged s h z m n (ruling_of result) }
 {
     if !rules::unit_within(s) {
-        return Verdict::Refused(Refusal {
-            number: rules::SLOPE_UNIT,
-            place: 0,
-        });
+        return Err(Refused::by(Cause::SlopeUnit));
     }
     if !rules::width_within(h) {
-        return Verdict::Refused(Refusal {
-            number: rules::WIDTH,
-            place: 0,
-        });
+        return Err(Refused::by(Cause::Width));
     }
     if !rules::rise_within(z) {
-        return Verdict::Refused(Refusal {
-            number: rules::RISE,
-            place: 0,
-        });
+        return Err(Refused::by(Cause::Rise));
     }
-    if !is_monotone(rules::unit(s), h, z, m, n) {
-        return Verdict::Bends;
+    if !is_monotone(rules::unit(s), Extent { h, z }, m, n) {
+        return Ok(Verdict::Bends);
     }
     if 0 < z {
-        return Verdict::Rising;
+        return Ok(Verdict::Rising);
     }
     if z < 0 {
-        return Verdict::Falling;
+        return Ok(Verdict::Falling);
     }
-    Verdict::Flat
+    Ok(Verdict::Flat)
 }
 
-// The coefficients of a piece within the limits, with slopes in 1/unit: a, 3Z − 2a − b and a + b − 2Z.
-pub fn coefficients(unit: i64, h: i64, z: i64, m: i32, n: i32) -> Cubic
-    requires unit_size { UnitSize unit }
-    requires width_within { WidthWithin h }
-    requires rise_within { RiseWithin z }
-    ensures { Coefficients unit h z m n result.first result.second result.third }
+// The coefficients of a piece, with slopes in 1/unit: a, 3Z − 2a − b and a + b − 2Z.
+pub fn coefficients(unit: SlopeUnit, extent: Extent, m: i32, n: i32) -> Cubic
+    ensures { Coefficients unit.size extent.h extent.z m n result.first result.second result.third }
 {
-    let u = in_units(unit, h, z, m, n);
-    let rise = u.rise;
-    let a = u.a;
-    let b = u.b;
-    let second = 3 * rise - 2 * a - b;
-    let third = a + b - 2 * rise;
+    let Units { rise, a, b } = in_units(unit, extent.h, extent.z, m, n);
     Cubic {
         first: a,
-        second,
-        third,
+        second: 3 * rise - 2 * a - b,
+        third: a + b - 2 * rise,
     }
 }

@@ -1,8 +1,9 @@
+pub mod InPiece
+pub mod Inside
 pub mod Position
 pub mod Pieces
 pub mod Refused
 pub mod Determined
 pub mod Spot
-pub mod Held
 pub mod Halving
 pub mod Found

@@ -1,17 +1,14 @@
 -- A position in the piece that it belongs to, by the numbers that the exact rules take of it.
-use Rattle.std.specs.Prelude.{◌≡◌, List, ℕ, ◌+◌, ℤ, pos, ◌+ℤ◌, ◌-ℤ◌}
+use Rattle.std.specs.Prelude.{◌≡◌, List, ℕ, ◌+◌, ℤ, ◌+ℤ◌, ◌-ℤ◌, Option, None, Some}
 use Rattle.std.proofs.Common.{sym, subst, subst₂, SFits}
 use Rattle.std.specs.Int.{w32}
-use Rattle.integers.specs.Promise.{Between}
 use Rattle.integers.specs.Arguments.{same₄}
-use Rattle.cubic.specs.Piece.{Monotone}
-use Rattle.rules.specs.Limits.{unit, WidthWithin, RiseWithin}
-use Rattle.rules.specs.Known.{UnitSize, unit_size}
+use Rattle.rules.specs.Limits.{unit}
+use Rattle.rules.specs.Known.{unit_size}
 use Rattle.table.specs.Table.{Table, entry, step}
 use Rattle.table.specs.Accepted.{Accepted}
 use Rattle.position.specs.declared.Spot.{Spot}
-use Rattle.position.specs.declared.Sought.{Sought}
-use Rattle.position.specs.declared.Sought.TheVariants.{Outside, On}
+use Rattle.position.specs.InPiece.{InPiece}
 use Rattle.position.specs.Position.{WithinKnots, Belongs}
 use Rattle.position.specs.Pieces.{within_list, inside_piece}
 
@@ -28,14 +25,14 @@ pub record SpotOn (ks vs ss : List ℤ) (i : ℕ) (x left h z m n t : ℤ) : Typ
   pub right_fits : SFits w32 (left +ℤ z)
 
 -- where a position lies: outside the knots, or in its piece
-pub data SoughtIn (ks vs ss : List ℤ) (x : ℤ) : Sought → Type 0 where
-  outside : (WithinKnots ks x → ⊥) → SoughtIn ks vs ss x Outside
-  on : {s : Spot} → WithinKnots ks x → SpotOn ks vs ss s.piece x s.left s.h s.z s.m s.n s.t → SoughtIn ks vs ss x (On s)
+pub data SoughtIn (ks vs ss : List ℤ) (x : ℤ) : Option Spot → Type 0 where
+  outside : (WithinKnots ks x → ⊥) → SoughtIn ks vs ss x None
+  on : {s : Spot} → WithinKnots ks x → SpotOn ks vs ss s.piece x s.left s.h s.z s.m s.n s.t → SoughtIn ks vs ss x (Some s)
 
-pub sought_outside : {ks vs ss : List ℤ} {x : ℤ} → SoughtIn ks vs ss x Outside → WithinKnots ks x → ⊥
+pub sought_outside : {ks vs ss : List ℤ} {x : ℤ} → SoughtIn ks vs ss x None → WithinKnots ks x → ⊥
 sought_outside (outside f) = f
 
-pub sought_on : {ks vs ss : List ℤ} {x : ℤ} {s : Spot} → SoughtIn ks vs ss x (On s) → WithinKnots ks x × SpotOn ks vs ss s.piece x s.left s.h s.z s.m s.n s.t
+pub sought_on : {ks vs ss : List ℤ} {x : ℤ} {s : Spot} → SoughtIn ks vs ss x (Some s) → WithinKnots ks x × SpotOn ks vs ss s.piece x s.left s.h s.z s.m s.n s.t
 sought_on (on w s) = (w, s)
 
 -- what is said of a spot's numbers is said of the lists'
@@ -44,14 +41,6 @@ pub of_spot : {ks vs ss : List ℤ} {i : ℕ} {x left h z m n t : ℤ} (R : ℤ 
 of_spot {ks} {vs} {i = i} {x} {h = h} {z} {m} {n} R s r =
     same₄ (λ (h z m n : ℤ). R (entry vs i) h z m n (x -ℤ entry ks i)) s.h_is s.z_is s.m_is s.n_is
     (subst₂ (λ (left t : ℤ). R left h z m n t) s.left_is s.t_is r)
-
--- a piece as an accepted table has it, with slopes in 1/U, and a count in it
-pub record InPiece (U h z m n t : ℤ) : Type 0 where
-  pub unit : UnitSize U
-  pub width : WidthWithin h
-  pub rise : RiseWithin z
-  pub monotone : Monotone U h z m n
-  pub place : Between (pos 0) t h
 
 pub inside_accepted : {tab : Table} {i : ℕ} {x : ℤ} → Accepted tab → Belongs tab.knots x i
     → InPiece (unit tab.s) (step tab.knots i) (step tab.values i) (entry tab.slopes i) (entry tab.slopes (i + 1)) (x -ℤ entry tab.knots i)

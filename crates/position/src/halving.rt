@@ -1,5 +1,5 @@
 // The piece of a position, found by halving: of a range of pieces that has it, the half is kept that has it, until one piece is left. Of the 1,023 pieces
-// that a table can have at most, one is left after ten halvings or fewer.
+// that a table can have at most, one is left after ten halvings or fewer: that is shown, and `partition_point` says nothing of its steps.
 ghost use Rattle.std.specs.Prelude.{◌-◌, ◌≤◌, ◌<◌, ◌<ℤ◌, length};
 ghost use Rattle.integers.specs.Promise.{Decided};
 ghost use Rattle.table.specs.Table.{entry};

@@ -3,25 +3,21 @@
 
 ghost use Rattle.std.specs.Prelude.{◌≡◌, ◌<◌, length};
 ghost use Rattle.integers.specs.Promise.{Decided};
-ghost use Rattle.table.specs.Table.{table};
-ghost use Rattle.table.specs.Accepted.{PointsWithin};
+ghost use Rattle.rules.specs.Causes.{number, place, answer_or};
+ghost use Rattle.table.specs.Held.{held};
 ghost use Rattle.position.specs.Position.{WithinKnots, Belongs, Located};
 ghost use Rattle.position.specs.Spot.{SpotOn, SoughtIn};
+ghost use Rattle.position.specs.Inside.{FoundAt};
 
 mod halving;
+mod inside;
 
-use rules::Refusal;
-
-// A position's piece, or the refusal and piece 0.
-#[repr(C)]
-#[derive(Clone, Copy)]
-pub struct Place {
-    pub refusal: Refusal,
-    pub piece: usize,
-}
+pub use inside::Inside;
+use rules::{Cause, Refused};
+use table::{GoodPoints, Table};
 
 // A position in its piece: the piece's number, left value, width, rise and slopes, and the counts from its left knot to the position.
-#[derive(Clone, Copy)]
+#[derive(Clone, Copy, PartialEq, Eq)]
 pub struct Spot {
     pub piece: usize,
     pub left: i32,
@@ -32,80 +28,66 @@ pub struct Spot {
     pub t: i64,
 }
 
-// Where a position lies in a table: outside its knots, which is 6, or in a piece.
-#[derive(Clone, Copy)]
-pub enum Sought {
-    Outside,
-    On(Spot),
-}
-
 // Whether a position lies from the first knot to the last.
 fn within(knots: &[i32], position: i32) -> bool
     requires { 1 < length knots.now }
     ensures { Decided (WithinKnots knots.now position) result }
 {
-    if position < knots[0] {
-        return false;
-    }
-    position <= knots[knots.len() - 1]
+    knots[0] <= position && position <= knots[knots.len() - 1]
 }
 
-// Where a position is in piece i, which it belongs to, of points within the limits.
-fn spot_on(knots: &[i32], values: &[i32], slopes: &[i32], i: usize, position: i32) -> Spot
-    requires points_within { PointsWithin knots.now values.now }
-    requires slopes_len { length slopes.now ≡ length knots.now }
-    requires belongs { Belongs knots.now position i }
-    ensures { SpotOn knots.now values.now slopes.now result.piece position result.left result.h result.z result.m result.n result.t }
+// Where a position is in piece i, which it belongs to. The rise is taken of the two values, and not by `GoodPoints::piece`: that the right one fits in 32 bits is answered, too.
+fn spot_on(points: GoodPoints<'_>, slopes: &[i32], i: usize, position: i32) -> Spot
+    requires slopes_len { length slopes.now ≡ length points.knots.now }
+    requires belongs { Belongs points.knots.now position i }
+    ensures { SpotOn points.entry.knots.now points.entry.values.now slopes.now result.piece position result.left result.h result.z result.m result.n result.t }
 {
-    let left = values[i];
-    let h = table::step(knots, i);
-    let z = integers::difference(left, values[i + 1]);
-    let m = slopes[i];
-    let n = slopes[i + 1];
-    let t = integers::difference(knots[i], position);
+    let left = points.values[i];
     Spot {
         piece: i,
         left,
-        h,
-        z,
-        m,
-        n,
-        t,
+        h: table::step(points.knots, i),
+        z: integers::difference(left, points.values[i + 1]),
+        m: slopes[i],
+        n: slopes[i + 1],
+        t: integers::difference(points.knots[i], position),
     }
 }
 
-// Where a position lies among points within the limits. What is asked of the table is asked before, once for any number of positions; the slopes are read, and need not be good.
-pub fn seek(knots: &[i32], values: &[i32], slopes: &[i32], position: i32) -> Sought
-    requires points_within { PointsWithin knots.now values.now }
-    requires slopes_len { length slopes.now ≡ length knots.now }
-    ensures { SoughtIn knots.now values.now slopes.now position result }
+// Where a position lies among good points, if it is not outside their knots. What is asked of the table is asked before, once for any number of positions; the slopes are read, and need not be good.
+pub fn seek(points: GoodPoints<'_>, slopes: &[i32], position: i32) -> Option<Spot>
+    requires { length slopes.now ≡ length points.knots.now }
+    ensures { SoughtIn points.entry.knots.now points.entry.values.now slopes.now position result }
 {
-    if !within(knots, position) {
-        return Sought::Outside;
+    if within(points.knots, position) {
+        let piece = halving::piece(points.knots, position);
+        Some(spot_on(points, slopes, piece, position))
+    } else {
+        None
     }
-    let piece = halving::piece(knots, position);
-    Sought::On(spot_on(knots, values, slopes, piece, position))
 }
 
-// The piece that the position belongs to, or the refusal, in the order 12, 1, 2, 3, 4, 5, 6.
-pub fn locate(s: u32, knots: &[i32], values: &[i32], slopes: &[i32], position: i32) -> Place
-    ensures { Located (table s knots.now values.now slopes.now) position result.refusal.number result.refusal.place result.piece }
+// Where a position lies in a table, or the refusal, in the order 12, 1, 2, 3, 4, 5, 6: the whole table is checked first, wherever the position lies.
+pub fn find(table: Table<'_>, position: i32) -> Result<Inside, Refused>
+    ensures { FoundAt (held table.entry) position result }
 {
-    let refusal = table::check(s, knots, values, slopes);
-    if refusal.number != rules::DONE {
-        return Place { refusal, piece: 0 };
-    }
-    match seek(knots, values, slopes, position) {
-        Sought::Outside => Place {
-            refusal: Refusal {
-                number: rules::POSITION,
-                place: 0,
-            },
-            piece: 0,
-        },
-        Sought::On(spot) => Place {
-            refusal,
-            piece: spot.piece,
-        },
-    }
+    table::check(table)?;
+    let points = GoodPoints {
+        knots: table.knots,
+        values: table.values,
+    };
+    let Some(spot) = seek(points, table.slopes, position) else {
+        return Err(Refused::by(Cause::Position));
+    };
+    Ok(Inside {
+        unit: rules::unit(table.s),
+        spot,
+    })
+}
+
+// The piece that the position belongs to, or the refusal, in the same order.
+pub fn locate(table: Table<'_>, position: i32) -> Result<usize, Refused>
+    ensures { Located (held table.entry) position (number result) (place result) (answer_or 0 result) }
+{
+    Ok(find(table, position)?.spot.piece)
 }

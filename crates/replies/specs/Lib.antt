@@ -1,5 +1,3 @@
 pub mod Floats
 pub mod Replies
-pub mod Apart
-pub mod Forms
 pub mod Examples

@@ -1,12 +1,15 @@
 -- The line that each answer of the workbench is written as. Text is the list of its bytes. In a form, `#` is the place of the next number and `$` that of the cause of a refusal.
-use Rattle.std.specs.Prelude.{ℕ, cond, List, [], ◌∷◌, ◌++◌, ◌==◌, slice_index_or}
+use Rattle.std.specs.Prelude.{ℕ, Ok, Err, List, [], ◌∷◌, ◌++◌}
 use Rattle.answers.specs.declared.filling.Signed.{Signed}
 use Rattle.answers.specs.Filling.{natural_as, whole_as, filled}
 use Rattle.commands.specs.declared.Fault.{Fault}
 use Rattle.commands.specs.declared.Fault.TheVariants.{TooLong, NoCommand, TooFew, TooMany, NoList, NotDecimal, Beyond32, Beyond64, BeyondUnsigned}
-use Rattle.rules.specs.declared.Refusal.{Refusal}
+use Rattle.rules.specs.declared.Cause.{Cause}
+use Rattle.rules.specs.declared.Cause.TheVariants as cause
+use Rattle.rules.specs.declared.Refused.{Refused}
+use Rattle.rules.specs.Causes.{number_of}
 use Rattle.piece.specs.declared.Verdict.{Verdict}
-use Rattle.piece.specs.declared.Verdict.TheVariants.{Rising, Falling, Flat, Bends, Refused}
+use Rattle.piece.specs.declared.Verdict.TheVariants.{Rising, Falling, Flat, Bends}
 use Rattle.drive.specs.declared.Answer.{Answer}
 use Rattle.drive.specs.declared.Answer.TheVariants.{Dwell, Move}
 use Rattle.replies.specs.declared.Reply.{Reply}
@@ -104,38 +107,24 @@ too_large = 112 ∷ 105 ∷ 101 ∷ 99 ∷ 101 ∷ 32 ∷ 116 ∷ 111 ∷ 111 �
 abbrev bad_unit : List ℕ
 bad_unit = 116 ∷ 104 ∷ 101 ∷ 32 ∷ 115 ∷ 108 ∷ 111 ∷ 112 ∷ 101 ∷ 32 ∷ 117 ∷ 110 ∷ 105 ∷ 116 ∷ 32 ∷ 105 ∷ 115 ∷ 32 ∷ 110 ∷ 111 ∷ 116 ∷ 32 ∷ 105 ∷ 110 ∷ 32 ∷ 48 ∷ 32 ∷ 116 ∷ 111 ∷ 32 ∷ 56 ∷ []
 
--- the causes by their numbers, from 0, which refuses nothing; 9, 10 and 11 have none
-abbrev pub causes : List (List ℕ)
-causes =
-    []
-    ∷ lengths_differ
-    ∷ bad_count
-    ∷ bad_width
-    ∷ bad_rise
-    ∷ not_monotone
-    ∷ bad_position
-    ∷ no_point
-    ∷ too_large
-    ∷ []
-    ∷ []
-    ∷ []
-    ∷ bad_unit
-    ∷ []
-
--- a number without a cause has an empty one
-abbrev pub cause_of : ℕ → List ℕ
-cause_of number = slice_index_or causes number []
+-- what each cause says
+abbrev pub cause_of : Cause → List ℕ
+cause_of cause.Lengths = lengths_differ
+cause_of cause.Count = bad_count
+cause_of cause.Width = bad_width
+cause_of cause.Rise = bad_rise
+cause_of cause.Bend = not_monotone
+cause_of cause.Position = bad_position
+cause_of cause.Point = no_point
+cause_of cause.Size = too_large
+cause_of cause.SlopeUnit = bad_unit
 
 -- `refused # at #: $`
 abbrev pub refused : List ℕ
 refused = 114 ∷ 101 ∷ 102 ∷ 117 ∷ 115 ∷ 101 ∷ 100 ∷ 32 ∷ 35 ∷ 32 ∷ 97 ∷ 116 ∷ 32 ∷ 35 ∷ 58 ∷ 32 ∷ 36 ∷ []
 
-abbrev pub refused_line : Refusal → List ℕ
-refused_line r = filled refused (cause_of r.number) (natural_as r.number ∷ natural_as r.place ∷ []) ++ (10 ∷ [])
-
--- a line, or that of the refusal where its number is not 0
-abbrev pub unless_refused : Refusal → List ℕ → List ℕ
-unless_refused r otherwise = cond (r.number == 0) otherwise (refused_line r)
+abbrev pub refused_line : Refused → List ℕ
+refused_line r = filled refused (cause_of r.cause) (natural_as (number_of r.cause) ∷ natural_as r.place ∷ []) ++ (10 ∷ [])
 
 -- ---- the other answers
 
@@ -177,12 +166,14 @@ move = 109 ∷ 111 ∷ 118 ∷ 101 ∷ 32 ∷ 35 ∷ 32 ∷ 35 ∷ 32 ∷ 35 ∷
 
 -- ---- the line of each reply; a silent one has no byte
 
+abbrev pub verdict_text : Verdict → List ℕ
+verdict_text Rising = rising
+verdict_text Falling = falling
+verdict_text Flat = flat
+verdict_text Bends = bends
+
 abbrev pub verdict_line : Verdict → List ℕ
-verdict_line Rising = line rising []
-verdict_line Falling = line falling []
-verdict_line Flat = line flat []
-verdict_line Bends = line bends []
-verdict_line (Refused r) = refused_line r
+verdict_line verdict = line (verdict_text verdict) []
 
 abbrev pub told_line : Answer → List ℕ
 told_line (Dwell level) = line dwell (float_as level ∷ [])
@@ -191,9 +182,13 @@ told_line (Move m) = line move (float_as m.left ∷ float_as m.numerator ∷ flo
 unfoldable pub line_of : Reply → List ℕ
 line_of Silent = []
 line_of (Wrong n fault) = fault_line n fault
-line_of (Done r) = unless_refused r (line ok [])
+line_of (Done (Ok done)) = line ok []
+line_of (Done (Err r)) = refused_line r
 line_of (Count n) = line counted (natural_as n ∷ [])
-line_of (Judged verdict) = verdict_line verdict
-line_of (Valued v) = unless_refused v.refusal (line value (whole_as v.value ∷ []))
-line_of (Driven d) = unless_refused d.refusal (told_line d.answer)
+line_of (Judged (Ok verdict)) = verdict_line verdict
+line_of (Judged (Err r)) = refused_line r
+line_of (Valued (Ok v)) = line value (whole_as v ∷ [])
+line_of (Valued (Err r)) = refused_line r
+line_of (Driven (Ok answer)) = told_line answer
+line_of (Driven (Err r)) = refused_line r
 line_of (SlopeUnit s) = line value (natural_as s ∷ [])

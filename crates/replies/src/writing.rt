@@ -1,57 +1,141 @@
-// A reply as bytes.
+// A reply as bytes, each of which is promised, where `Display` promises none. Each template stands beside its numbers, in one call.
+ghost use Rattle.std.specs.Prelude.{◌≡◌, [], ◌∷◌, ◌++◌};
 ghost use Rattle.words.specs.Lines.{Appended};
-ghost use Rattle.replies.specs.Replies.{line_of};
+ghost use Rattle.answers.specs.Filling.{filled};
+ghost use Rattle.replies.specs.Replies.{cause_of, verdict_text, fault_line, refused_line, line_of};
 
 use crate::Reply;
-use crate::forms::parts_of;
+use crate::written::float;
+use answers::Signed;
+use commands::Fault;
+use drive::Answer;
+use piece::Verdict;
+use rules::{Cause, Refused};
 
 // Puts the line of a reply, with its LF, behind the first `held` bytes of `into`, as far as there is room, and answers how many bytes stand there then. A silent one has
-// no byte. Every form and every cause stands on a line of its own, at the place that it is taken from: the line of a number without a cause is empty.
+// no byte.
+#[tactic(auto, unfolding(crate::specs::Replies::line_of))]
 pub fn append_reply(into: &mut [u8], held: usize, reply: Reply) -> usize
     ensures { Appended into.old held (line_of reply) into.new result }
 {
-    let parts = parts_of(reply);
-    let forms = b"
-? line #: the line is longer than 65536 bytes
-? line #: no such command
-? line #: too few words
-? line #: too many words
-? line #: no such list
-? line #: number # is not a whole decimal number
-? line #: number # does not fit 32 bits
-? line #: number # does not fit 64 bits
-? line #: number # is not in 0 to 4294967295
-refused # at #: $
-ok
-ok #
-rising
-falling
-flat
-bends
-#
-dwell #
-move # # #";
-    let causes = b"
-the lists' lengths differ
-fewer than 2 or more than 1024 points
-a width is not in 1 to 1024
-a rise is outside its limits
-a piece is not monotone
-position before the first or after the last knot
-no point with this number
-piece too large for the exact float answer
+    match reply {
+        Reply::Silent => words::append(into, held, b""),
+        Reply::Wrong(line, fault) => append_fault(into, held, line, fault),
+        Reply::Done(Ok(())) => append_line(into, held, b"ok", &[]),
+        Reply::Count(n) => append_line(into, held, b"ok #", &[Signed::from(n as u64)]),
+        Reply::Judged(Ok(verdict)) => append_line(into, held, text_of_verdict(verdict), &[]),
+        Reply::Valued(Ok(value)) => append_line(into, held, b"#", &[Signed::from(value)]),
+        Reply::Driven(Ok(Answer::Dwell(level))) => append_line(
+            into,
+            held,
+            b"dwell #",
+            &[float(level)],
+        ),
+        Reply::Driven(Ok(Answer::Move(m))) => append_line(
+            into,
+            held,
+            b"move # # #",
+            &[float(m.left), float(m.numerator), float(m.denominator)],
+        ),
+        Reply::SlopeUnit(s) => append_line(into, held, b"#", &[Signed::from(u64::from(s))]),
+        Reply::Done(Err(r))
+        | Reply::Judged(Err(r))
+        | Reply::Valued(Err(r))
+        | Reply::Driven(Err(r)) => append_refusal(into, held, r),
+    }
+}
 
+// A template with its numbers, and an LF.
+fn append_line(into: &mut [u8], held: usize, template: &[u8], numbers: &[Signed]) -> usize
+    ensures { Appended into.old held (filled template.now [] numbers.now ++ (10 ∷ [])) into.new result }
+{
+    let n = answers::fill(into, held, template, b"", numbers);
+    words::append(into, n, b"\n")
+}
 
+#[tactic(auto, unfolding(crate::specs::Replies::fault_line))]
+fn append_fault(into: &mut [u8], held: usize, line: u64, fault: Fault) -> usize
+    ensures { Appended into.old held (fault_line line fault) into.new result }
+{
+    let line = Signed::from(line);
+    match fault {
+        Fault::TooLong => append_line(
+            into,
+            held,
+            b"? line #: the line is longer than 65536 bytes",
+            &[line],
+        ),
+        Fault::NoCommand => append_line(into, held, b"? line #: no such command", &[line]),
+        Fault::TooFew => append_line(into, held, b"? line #: too few words", &[line]),
+        Fault::TooMany => append_line(into, held, b"? line #: too many words", &[line]),
+        Fault::NoList => append_line(into, held, b"? line #: no such list", &[line]),
+        Fault::NotDecimal(k) => append_line(
+            into,
+            held,
+            b"? line #: number # is not a whole decimal number",
+            &[line, Signed::from(k as u64)],
+        ),
+        Fault::Beyond32(k) => append_line(
+            into,
+            held,
+            b"? line #: number # does not fit 32 bits",
+            &[line, Signed::from(k as u64)],
+        ),
+        Fault::Beyond64(k) => append_line(
+            into,
+            held,
+            b"? line #: number # does not fit 64 bits",
+            &[line, Signed::from(k as u64)],
+        ),
+        Fault::BeyondUnsigned(k) => append_line(
+            into,
+            held,
+            b"? line #: number # is not in 0 to 4294967295",
+            &[line, Signed::from(k as u64)],
+        ),
+    }
+}
 
-the slope unit is not in 0 to 8";
+fn append_refusal(into: &mut [u8], held: usize, r: Refused) -> usize
+    ensures { Appended into.old held (refused_line r) into.new result }
+{
+    let numbers = [
+        Signed::from(u64::from(r.cause.number())),
+        Signed::from(r.place as u64),
+    ];
     let n = answers::fill(
         into,
         held,
-        answers::entry(forms, parts.form),
-        answers::entry(causes, parts.cause),
-        parts.first,
-        parts.second,
-        parts.third,
+        b"refused # at #: $",
+        text_of_cause(r.cause),
+        &numbers,
     );
-    words::append(into, n, words::part(b"\n", 0, parts.ends))
+    words::append(into, n, b"\n")
+}
+
+fn text_of_verdict(verdict: Verdict) -> &'static [u8]
+    ensures { result.now ≡ verdict_text verdict }
+{
+    match verdict {
+        Verdict::Rising => b"rising",
+        Verdict::Falling => b"falling",
+        Verdict::Flat => b"flat",
+        Verdict::Bends => b"bends",
+    }
+}
+
+fn text_of_cause(cause: Cause) -> &'static [u8]
+    ensures { result.now ≡ cause_of cause }
+{
+    match cause {
+        Cause::Lengths => b"the lists' lengths differ",
+        Cause::Count => b"fewer than 2 or more than 1024 points",
+        Cause::Width => b"a width is not in 1 to 1024",
+        Cause::Rise => b"a rise is outside its limits",
+        Cause::Bend => b"a piece is not monotone",
+        Cause::Position => b"position before the first or after the last knot",
+        Cause::Point => b"no point with this number",
+        Cause::Size => b"piece too large for the exact float answer",
+        Cause::SlopeUnit => b"the slope unit is not in 0 to 8",
+    }
 }

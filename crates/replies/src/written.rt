@@ -1,4 +1,4 @@
-// A float as it is written.
+// A float as it is written, for the replies alone: no other number is a float.
 ghost use Rattle.std.specs.Prelude.{◌≡◌};
 ghost use Rattle.replies.specs.Floats.{is_negative, whole_part, float_as};
 

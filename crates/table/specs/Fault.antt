@@ -1,11 +1,11 @@
 -- What is the first fault of a piece, by the tests of its width, its rise and its cubic in turn.
-use Rattle.std.specs.Prelude.{◌≡◌, ℕ, ◌+◌, ◌≤◌, ◌<◌, ℤ, ◌-ℤ◌}
+use Rattle.std.specs.Prelude.{◌≡◌, ℕ, ◌+◌, ◌≤◌, ◌<◌, ℤ, ◌-ℤ◌, Option}
 use Rattle.std.proofs.Common.{sym, ap₂, subst, arith}
 use Rattle.integers.specs.Arguments.{same₄}
 use Rattle.cubic.specs.Piece.{Monotone}
 use Rattle.rules.specs.Limits.{unit, WidthWithin, RiseWithin}
 use Rattle.table.specs.Table.{Table, step, point_count, MonotoneAt, Holds, no_such_unit, lengths_differ, too_few_or_many, width_outside, rise_outside, not_monotone}
-use Rattle.table.specs.declared.search.Points.{Points}
+use Rattle.table.specs.declared.changed.Change.{Change}
 use Rattle.table.specs.Search.{knots_of, values_of, asked, as_many, Askable, EndAt, SoundAt, FaultAt, sound, faulty}
 
 -- the first cause, from 3 up to `last`, that holds of a piece of these numbers, with slopes in 1/U
@@ -62,10 +62,10 @@ module _ (t : Table) where
   piece_there c q a b (rise_outside l f) = l
   piece_there c q a b (not_monotone l f) = l
 
-pub asked_there : (p : Points) (t : Table) (c q : ℕ) → 3 ≤ c → c ≤ 5 → Holds (asked p t) c q → q + 1 < point_count t
+pub asked_there : (p : Option Change) (t : Table) (c q : ℕ) → 3 ≤ c → c ≤ 5 → Holds (asked p t) c q → q + 1 < point_count t
 asked_there p t c q a b h = subst (λ (n : ℕ). q + 1 < n) (as_many p t) (piece_there (asked p t) c q a b h)
 
-pub fault_between : (p : Points) (t : Table) {last i n : ℕ} {U k v m k' v' m' : ℤ} → Askable last → i + 1 < point_count t → U ≡ unit t.s
+pub fault_between : (p : Option Change) (t : Table) {last i n : ℕ} {U k v m k' v' m' : ℤ} → Askable last → i + 1 < point_count t → U ≡ unit t.s
     → EndAt (knots_of p t.knots) (values_of p t.values) t.slopes last i k v m → EndAt (knots_of p t.knots) (values_of p t.values) t.slopes last (i + 1) k' v' m' → FaultOf U last (k' -ℤ k) (v' -ℤ v) m m' n
     → FaultAt (Holds (asked p t)) last i n
 fault_between p t {last} {i} {n} {k = k} {v} {m} {k'} {v'} {m'} a here e l r f =

@@ -1,3 +1,4 @@
+pub mod Held
 pub mod Accepted
 pub mod AfterChange
 pub mod WouldBe

@@ -6,7 +6,7 @@ use Rattle.std.specs.Int.Signed.{mag}
 use Rattle.std.specs.Int.{w32, w64}
 use Rattle.std.proofs.lemmas.Bool.{eqb-false}
 use Rattle.integers.specs.Promise.{Decided, holds, fails}
-use Rattle.integers.specs.Decided.{decided_by, or_not}
+use Rattle.integers.specs.Decided.{decided_by, decided_alike, or_not}
 use Rattle.integers.specs.Sizes.{returned}
 use Rattle.rules.specs.Limits.{CountWithin, WidthWithin, RiseWithin}
 use Rattle.rules.specs.Refusals.{Given}
@@ -58,10 +58,6 @@ no_faults {n = n} f = decided_by (eqb n 0) (λ e. f.sound (eqb-true n 0 e)) (λ 
 
 -- ---- some pieces, and more
 
-pub alike : {A B : Type 0} {b : Bool} → (A → B) → (B → A) → Decided A b → Decided B b
-alike f g (holds a) = holds (f a)
-alike f g (fails h) = fails (λ b. h (g b))
-
 module _ {ks vs : List ℤ} where
   pub no_pieces : {from end : ℕ} → end ≤ from → PiecesWithin ks vs from end
   no_pieces l = record { each = λ i a b. absurd (omega (arith, l, a, b)) }
@@ -98,7 +94,7 @@ step_other list x {k} {i} f = ap₂ (λ (y z : ℤ). z -ℤ y) (get_or-set_other
 module _ (c : Change) (ks vs : List ℤ) where
   -- pieces that the change does not touch
   untouched : {from end : ℕ} {b : Bool} → ((i : ℕ) → from ≤ i → i < end → Apart c.point i) → Decided (PiecesWithin ks vs from end) b → Decided (PiecesAfter c ks vs from end) b
-  untouched apart = alike (λ p. record { each = λ i a b. then (apart i a b) (p.each i a b) }) (λ p. record { each = λ i a b. before (apart i a b) (p.each i a b) })
+  untouched apart = decided_alike (λ p. record { each = λ i a b. then (apart i a b) (p.each i a b) }) (λ p. record { each = λ i a b. before (apart i a b) (p.each i a b) })
     where
       then : {i : ℕ} → Apart c.point i → StepsWithin ks vs i → PieceAfter c ks vs i
       then f p =
@@ -112,12 +108,12 @@ module _ (c : Change) (ks vs : List ℤ) where
   pub left_of_it : {b : Bool} {i : ℕ} → i + 1 ≡ c.point → PieceAfter c ks vs i → Decided (PiecesWithin ks vs 0 i) b → Decided (PiecesAfter c ks vs 0 c.point) b
   left_of_it {b} {i} e here d =
       subst (λ (k : ℕ). Decided (PiecesAfter c ks vs 0 k) b) e
-      (alike (λ p. joined i p (just here)) (fewer (omega arith) (omega arith)) (untouched (λ q a l. (λ (u : q ≡ c.point). omega (arith, e, l), λ (u : q + 1 ≡ c.point). omega (arith, e, l))) d))
+      (decided_alike (λ p. joined i p (just here)) (fewer (omega arith) (omega arith)) (untouched (λ q a l. (λ (u : q ≡ c.point). omega (arith, e, l), λ (u : q + 1 ≡ c.point). omega (arith, e, l))) d))
 
   -- and those on its right, the first by itself
   pub right_of_it : {b : Bool} {end : ℕ} → PieceAfter c ks vs c.point → Decided (PiecesWithin ks vs (c.point + 1) end) b → Decided (PiecesAfter c ks vs c.point end) b
   right_of_it here d =
-      alike (joined (c.point + 1) (just here)) (fewer (omega arith) (omega arith)) (untouched (λ q a l. (λ (u : q ≡ c.point). omega (arith, a), λ (u : q + 1 ≡ c.point). omega (arith, a))) d)
+      decided_alike (joined (c.point + 1) (just here)) (fewer (omega arith) (omega arith)) (untouched (λ q a l. (λ (u : q ≡ c.point). omega (arith, a), λ (u : q + 1 ≡ c.point). omega (arith, a))) d)
 
 -- ---- no piece is refused where all are within the limits
 

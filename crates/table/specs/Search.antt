@@ -1,33 +1,90 @@
 -- What the search for a faulty piece asks of a piece, and what it answers. Nobody has to believe this file: `first` promises `Given`.
-use Rattle.std.specs.Prelude.{◌≡◌, refl, List, [], ◌∷◌, ℕ, zero, suc, ◌^◌, ◌≤◌, ◌<◌, ℤ, set}
-use Rattle.std.proofs.Common.{sym, ap, subst, arith, length-set, SFits, to_z, of_z, to_z-of_z}
-use Rattle.std.specs.Int.Signed.{mag}
-use Rattle.std.specs.Int.{w32, w64}
+use Rattle.std.specs.Prelude.{◌≡◌, refl, List, [], ◌∷◌, ℕ, zero, suc, ◌-◌, ◌≤◌, ◌<◌, ℤ, set, Option, None, Some}
+use Rattle.std.proofs.Common.{ap, arith, length-set, SFits, to_z, of_z, to_z-of_z}
+use Rattle.std.specs.Int.{w32}
 use Rattle.integers.specs.Within.{Within}
-use Rattle.table.specs.declared.search.Points.{Points}
-use Rattle.table.specs.declared.search.Points.TheVariants.{Now, After}
+use Rattle.table.specs.declared.changed.Change.{Change}
 use Rattle.table.specs.Table.{Table, table, entry, point_count}
+use Rattle.rules.specs.Causes.{number_of}
+use Rattle.rules.specs.declared.Cause.{Cause}
+use Rattle.rules.specs.declared.Cause.TheVariants as causes
+use Rattle.table.specs.declared.search.Fault.{Fault}
+use Rattle.table.specs.declared.search.Fault.TheVariants.{Width, Rise, Bend}
+use Rattle.table.specs.declared.search.Found.{Found}
 
--- the points that are asked
-abbrev pub knots_of : Points → List ℤ → List ℤ
-knots_of Now ks = ks
-knots_of (After c) ks = set ks c.point c.knot
+-- the numbers of the causes of a piece, of what is found in one, and of what a search finds: 0 where it finds nothing
+abbrev pub fault_number : Fault → ℕ
+fault_number Width = 3
+fault_number Rise = 4
+fault_number Bend = 5
 
-abbrev pub values_of : Points → List ℤ → List ℤ
-values_of Now vs = vs
-values_of (After c) vs = set vs c.point c.value
+abbrev pub found_number : Option Fault → ℕ
+found_number None = 0
+found_number (Some f) = fault_number f
 
-abbrev pub asked : Points → Table → Table
+abbrev pub found_in : Option Found → ℕ
+found_in None = 0
+found_in (Some f) = fault_number f.fault
+
+abbrev pub found_at : Option Found → ℕ
+found_at None = 0
+found_at (Some f) = f.piece
+
+abbrev pub cause_of : Fault → Cause
+cause_of Width = causes.Width
+cause_of Rise = causes.Rise
+cause_of Bend = causes.Bend
+
+-- what is asked before it
+abbrev pub one_before : Fault → Option Fault
+one_before Width = None
+one_before Rise = Some Width
+one_before Bend = Some Rise
+
+pub caused : (f : Fault) → number_of (cause_of f) ≡ fault_number f
+caused Width = refl
+caused Rise = refl
+caused Bend = refl
+
+pub one_less : (f e : Fault) → Some e ≡ one_before f → (3 < fault_number f) × (fault_number e ≡ fault_number f - 1)
+one_less Width e p = absurd cc
+one_less Rise Width p = (omega arith, refl)
+one_less Rise Rise p = absurd cc
+one_less Rise Bend p = absurd cc
+one_less Bend Width p = absurd cc
+one_less Bend Rise p = (omega arith, refl)
+one_less Bend Bend p = absurd cc
+
+pub the_first : (f : Fault) → None ≡ one_before f → 3 < fault_number f → ⊥
+the_first Width p l = omega (arith, l)
+the_first Rise p l = absurd cc
+the_first Bend p l = absurd cc
+
+-- the points that are asked: as they are, or as they would be after a change
+abbrev pub knots_of : Option Change → List ℤ → List ℤ
+knots_of None ks = ks
+knots_of (Some c) ks = set ks c.point c.knot
+
+abbrev pub values_of : Option Change → List ℤ → List ℤ
+values_of None vs = vs
+values_of (Some c) vs = set vs c.point c.value
+
+abbrev pub asked : Option Change → Table → Table
 asked p t = table t.s (knots_of p t.knots) (values_of p t.values) t.slopes
 
-pub as_many : (p : Points) (t : Table) → point_count (asked p t) ≡ point_count t
-as_many Now t = refl
-as_many (After c) t = length-set t.knots c.point c.knot
+pub as_many : (p : Option Change) (t : Table) → point_count (asked p t) ≡ point_count t
+as_many None t = refl
+as_many (Some c) t = length-set t.knots c.point c.knot
 
 -- the causes of a piece are 3, 4 and 5
 pub record Askable (last : ℕ) : Type 0 where
   pub low : 3 ≤ last
   pub high : last ≤ 5
+
+pub askable : (f : Fault) → Askable (fault_number f)
+askable Width = record { low = omega arith; high = omega arith }
+askable Rise = record { low = omega arith; high = omega arith }
+askable Bend = record { low = omega arith; high = omega arith }
 
 -- n numbers from a on, as an order of causes
 abbrev pub numbers : (a n : ℕ) → List ℕ
@@ -42,9 +99,6 @@ pub record SlopeFor (last : ℕ) (slopes : List ℤ) (i : ℕ) (m : ℤ) : Type 
 pub record Read (x r : ℤ) : Type 0 where
   pub is : r ≡ x
   pub within : Within 2147483648 r
-
-pub as_read : {x r : ℤ} → mag r < 2 ^ 63 → Read x r → Read x (to_z w64 (of_z w64 r))
-as_read {x} ok = subst (Read x) (sym (to_z-of_z {w = w64} (record { sfits = ok })))
 
 -- a list with a new entry as it came in
 pub as_it_came : (list : List ℤ) (at : ℕ) {new : ℤ} → SFits w32 new → set list at (to_z w32 (of_z w32 new)) ≡ set list at new

@@ -1,4 +1,5 @@
-// A change of one point, and the points as they would be after it: read so, and not written.
+// A change of one point, and the points as they would be after it: read so, and not written. What reads them as they are is in `pieces`, by itself: with a change asked of at every
+// entry a check takes half as long again.
 ghost use Rattle.std.specs.Prelude.{◌≡◌, ◌+◌, ◌<◌, length, set};
 ghost use Rattle.table.specs.Table.{entry, step};
 ghost use Rattle.table.specs.Search.{Read};
@@ -7,7 +8,7 @@ use crate::pieces;
 
 // A point's number, and the knot and the value that it shall have.
 #[repr(C)]
-#[derive(Clone, Copy)]
+#[derive(Clone, Copy, PartialEq, Eq)]
 pub struct Change {
     pub point: usize,
     pub knot: i32,
@@ -20,9 +21,10 @@ pub(crate) fn entry(list: &[i32], at: usize, new: i32, i: usize) -> i64
     ensures { Read (entry (set list.now at new) i) result }
 {
     if i == at {
-        return new as i64;
+        i64::from(new)
+    } else {
+        pieces::entry(list, i)
     }
-    pieces::entry(list, i)
 }
 
 // Piece i's width or rise, of the list as it would be.

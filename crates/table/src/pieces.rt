@@ -8,7 +8,7 @@ pub(crate) fn entry(list: &[i32], i: usize) -> i64
     requires { i < length list.now }
     ensures { Read (entry list.now i) result }
 {
-    list[i] as i64
+    i64::from(list[i])
 }
 
 // Piece i's width, of the knots, or its rise, of the values.

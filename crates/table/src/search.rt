@@ -1,22 +1,32 @@
-// The one search for a faulty piece. It asks several causes of each piece, so that a table without a fault is gone over once.
-ghost use Rattle.std.specs.Prelude.{◌-◌, ◌<◌, ◌-ℤ◌, length};
+// The one search for a faulty piece. It asks several causes of each piece, so that a table without a fault is gone over once; up to which one, and of which points, is a case, so that
+// there is one search and one proof.
+ghost use Rattle.std.specs.Prelude.{◌≡◌, ◌-◌, ◌<◌, ◌-ℤ◌, length};
 ghost use Rattle.integers.specs.Within.{Within};
+ghost use Rattle.rules.specs.Causes.{number, place};
 ghost use Rattle.rules.specs.Limits.{UnitWithin};
-ghost use Rattle.rules.specs.Known.{UnitSize};
 ghost use Rattle.rules.specs.Refusals.{Given};
-ghost use Rattle.table.specs.Table.{table, SameLengths, Holds};
-ghost use Rattle.table.specs.Search.{Askable, knots_of, values_of, asked, numbers, SlopeFor, EndAt, Scanned};
+ghost use Rattle.table.specs.Held.{held};
+ghost use Rattle.table.specs.Table.{SameLengths, Holds};
+ghost use Rattle.table.specs.Search.{fault_number, cause_of, one_before, found_number, found_in, found_at, knots_of, values_of, asked, numbers, SlopeFor, EndAt, Scanned};
 ghost use Rattle.table.specs.Fault.{FaultOf};
 
 use crate::changed::Change;
-use crate::{changed, pieces};
-use rules::Refusal;
+use crate::{Table, changed, pieces};
+use rules::{Cause, Extent, Refused, SlopeUnit};
 
-// The points that are asked: as they are, or as they would be after a change.
+// What can be wrong with a piece, in the order in which it is asked.
 #[derive(Clone, Copy)]
-pub(crate) enum Points {
-    Now,
-    After(Change),
+pub(crate) enum Fault {
+    Width,
+    Rise,
+    Bend,
+}
+
+// A faulty piece, and what is wrong with it.
+#[derive(Clone, Copy)]
+struct Found {
+    fault: Fault,
+    piece: usize,
 }
 
 // A point as the search asks it, the end of one piece and the start of the next. Knot and value are widened, so that their differences fit.
@@ -27,129 +37,123 @@ struct End {
     slope: i32,
 }
 
+// What is asked before a fault, if anything is.
+fn before(fault: Fault) -> Option<Fault>
+    ensures { result ≡ one_before fault }
+{
+    match fault {
+        Fault::Width => None,
+        Fault::Rise => Some(Fault::Width),
+        Fault::Bend => Some(Fault::Rise),
+    }
+}
+
+fn cause(fault: Fault) -> Cause
+    ensures { result ≡ cause_of fault }
+{
+    match fault {
+        Fault::Width => Cause::Width,
+        Fault::Rise => Cause::Rise,
+        Fault::Bend => Cause::Bend,
+    }
+}
+
 // The slope at point i where a bend is asked for; else no slope is read.
-fn slope(last: u32, slopes: &[i32], i: usize) -> i32
+fn slope(last: Fault, slopes: &[i32], i: usize) -> i32
     requires { i < length slopes.now }
-    ensures { SlopeFor last slopes.now i result }
+    ensures { SlopeFor (fault_number last) slopes.now i result }
 {
-    if last < rules::BEND {
-        return 0;
-    }
-    slopes[i]
-}
-
-// Point i, of the points that are asked.
-fn end_at(points: Points, last: u32, knots: &[i32], values: &[i32], slopes: &[i32], i: usize) -> End
-    requires same_lengths { SameLengths knots.now values.now slopes.now }
-    requires i_in_bounds { i < length knots.now }
-    ensures { EndAt (knots_of points knots.now) (values_of points values.now) slopes.now last i result.knot result.value result.slope }
-{
-    let slope = slope(last, slopes, i);
-    match points {
-        Points::Now => End {
-            knot: pieces::entry(knots, i),
-            value: pieces::entry(values, i),
-            slope,
-        },
-        Points::After(c) => End {
-            knot: changed::entry(knots, c.point, c.knot, i),
-            value: changed::entry(values, c.point, c.value, i),
-            slope,
-        },
+    match last {
+        Fault::Bend => slopes[i],
+        _ => 0,
     }
 }
 
-// The first of the causes 3 up to `last` that holds of the piece between two points, with slopes in 1/unit, or none. A bend is asked for only where the piece is within the limits.
-fn fault(unit: i64, last: u32, left: End, right: End) -> u32
-    requires unit_size { UnitSize unit }
-    requires within { Within 2147483648 left.knot × Within 2147483648 right.knot }
-    requires within_2 { Within 2147483648 left.value × Within 2147483648 right.value }
-    ensures { FaultOf unit last (right.knot -ℤ left.knot) (right.value -ℤ left.value) left.slope right.slope result }
+// Point i, as it is, or as it would be after a change.
+fn end_at(table: Table<'_>, change: Option<Change>, last: Fault, i: usize) -> End
+    requires same_lengths { SameLengths table.knots.now table.values.now table.slopes.now }
+    requires i_in_bounds { i < length table.knots.now }
+    ensures { EndAt (knots_of change table.entry.knots.now) (values_of change table.entry.values.now) table.entry.slopes.now (fault_number last) i result.knot result.value result.slope }
+{
+    let slope = slope(last, table.slopes, i);
+    match change {
+        None => End {
+            knot: pieces::entry(table.knots, i),
+            value: pieces::entry(table.values, i),
+            slope,
+        },
+        Some(c) => End {
+            knot: changed::entry(table.knots, c.point, c.knot, i),
+            value: changed::entry(table.values, c.point, c.value, i),
+            slope,
+        },
+    }
+}
+
+// The first fault, up to `last`, of the piece between two points, with slopes in 1/unit. A bend is asked for only where the piece is within the limits.
+fn first_fault(unit: SlopeUnit, last: Fault, left: End, right: End) -> Option<Fault>
+    requires knots { Within 2147483648 left.knot × Within 2147483648 right.knot }
+    requires values { Within 2147483648 left.value × Within 2147483648 right.value }
+    ensures { FaultOf unit.size (fault_number last) (right.knot -ℤ left.knot) (right.value -ℤ left.value) left.slope right.slope (found_number result) }
 {
     let h = right.knot - left.knot;
     if !rules::width_within(h) {
-        return rules::WIDTH;
+        return Some(Fault::Width);
     }
-    if last < rules::RISE {
-        return rules::DONE;
+    if let Fault::Width = last {
+        return None;
     }
     let z = right.value - left.value;
     if !rules::rise_within(z) {
-        return rules::RISE;
+        return Some(Fault::Rise);
     }
-    if last < rules::BEND {
-        return rules::DONE;
+    if let Fault::Rise = last {
+        return None;
     }
-    if !piece::is_monotone(unit, h, z, left.slope, right.slope) {
-        return rules::BEND;
+    if !piece::is_monotone(unit, Extent { h, z }, left.slope, right.slope) {
+        return Some(Fault::Bend);
     }
-    rules::DONE
+    None
 }
 
-// The first piece, `from` or after it, of which one of these causes holds, with the first of them; or none. A piece's right end is carried along as the
-// next one's left, and the slope unit is worked out once.
-fn scan(
-    s: u32,
-    points: Points,
-    last: u32,
-    knots: &[i32],
-    values: &[i32],
-    slopes: &[i32],
-    from: usize,
-) -> Refusal
-    requires unit_within { UnitWithin s }
-    requires askable { Askable last }
-    requires same_lengths { SameLengths knots.now values.now slopes.now }
-    requires from_in_bounds { from < length knots.now }
-    ensures { Scanned (Holds (asked points (table s knots.now values.now slopes.now))) last from result.number result.place }
+// The first piece, `from` or after it, that has a fault up to `last`, with the first of its faults. A piece's right end is carried along as the next one's left, and the
+// slope unit is worked out once.
+fn scan(table: Table<'_>, change: Option<Change>, last: Fault, from: usize) -> Option<Found>
+    requires unit_within { UnitWithin table.s }
+    requires same_lengths { SameLengths table.knots.now table.values.now table.slopes.now }
+    requires from_in_bounds { from < length table.knots.now }
+    ensures { Scanned (Holds (asked change (held table.entry))) (fault_number last) from (found_in result) (found_at result) }
 {
-    let unit = rules::unit(s);
-    let mut i = from;
-    let mut number = rules::DONE;
-    let mut left = end_at(points, last, knots, values, slopes, i);
-    let at = loop {
-        if knots.len() - i < 2 {
-            return Refusal {
-                number: rules::DONE,
-                place: 0,
-            };
-        }
-        let right = end_at(points, last, knots, values, slopes, i + 1);
-        number = fault(unit, last, left, right);
-        if number != rules::DONE {
-            break i;
+    let unit = rules::unit(table.s);
+    let mut left = end_at(table, change, last, from);
+    for i in from..table.knots.len() - 1 {
+        let right = end_at(table, change, last, i + 1);
+        if let Some(fault) = first_fault(unit, last, left, right) {
+            return Some(Found { fault, piece: i });
         }
         left = right;
-        i += 1;
-    };
-    Refusal { number, place: at }
+    }
+    None
 }
 
-// The first of these causes that holds, at the first piece of which it does, or none. Behind a faulty piece only what comes before its cause is asked.
-pub(crate) fn first(
-    s: u32,
-    points: Points,
-    last: u32,
-    knots: &[i32],
-    values: &[i32],
-    slopes: &[i32],
-) -> Refusal
-    requires unit_within { UnitWithin s }
-    requires askable { Askable last }
-    requires same_lengths { SameLengths knots.now values.now slopes.now }
-    requires knots_nonzero { 0 < length knots.now }
-    ensures { Given (Holds (asked points (table s knots.now values.now slopes.now))) (numbers 3 (last - 2)) result.number result.place }
+// The refusal by the first of the causes of a piece, up to `last`, that holds, at the first piece of which it does. Behind a faulty piece only what is asked before its fault is asked.
+pub(crate) fn first(table: Table<'_>, change: Option<Change>, last: Fault) -> Result<(), Refused>
+    requires unit_within { UnitWithin table.s }
+    requires same_lengths { SameLengths table.knots.now table.values.now table.slopes.now }
+    requires knots_nonzero { 0 < length table.knots.now }
+    ensures { Given (Holds (asked change (held table.entry))) (numbers 3 (fault_number last - 2)) (number result) (place result) }
 {
-    let found = scan(s, points, last, knots, values, slopes, 0);
-    let mut number = found.number;
-    let mut place = found.place;
-    while rules::WIDTH < number {
-        let earlier = scan(s, points, number - 1, knots, values, slopes, place + 1);
-        if earlier.number == rules::DONE {
+    let Some(mut found) = scan(table, change, last, 0) else {
+        return Ok(());
+    };
+    while let Some(earlier) = before(found.fault) {
+        let Some(nearer) = scan(table, change, earlier, found.piece + 1) else {
             break;
-        }
-        number = earlier.number;
-        place = earlier.place;
+        };
+        found = nearer;
     }
-    Refusal { number, place }
+    Err(Refused {
+        cause: cause(found.fault),
+        place: found.piece,
+    })
 }

@@ -10,10 +10,7 @@ use crate::{changed, pieces};
 fn fault(within: bool) -> usize
     ensures { result ≡ cond within 0 1 }
 {
-    if within {
-        return 0;
-    }
-    1
+    usize::from(!within)
 }
 
 // Whether all pieces from `from` up to and without `end` are within the limits.
@@ -23,11 +20,9 @@ pub(crate) fn all(knots: &[i32], values: &[i32], from: usize, end: usize) -> boo
     ensures { Decided (PiecesWithin knots.now values.now from end) result }
 {
     let mut faults: usize = 0;
-    let mut i = from;
-    while i < end {
+    for i in from..end {
         faults += fault(rules::width_within(pieces::step(knots, i)));
         faults += fault(rules::rise_within(pieces::step(values, i)));
-        i += 1;
     }
     faults == 0
 }
@@ -38,52 +33,18 @@ fn one_after(change: Change, knots: &[i32], values: &[i32], i: usize) -> bool
     requires i_in_bounds { i + 1 < length knots.now }
     ensures { Decided (PieceAfter change knots.now values.now i) result }
 {
-    if !rules::width_within(changed::step(knots, change.point, change.knot, i)) {
-        return false;
-    }
-    rules::rise_within(changed::step(values, change.point, change.value, i))
+    rules::width_within(changed::step(knots, change.point, change.knot, i))
+        && rules::rise_within(changed::step(values, change.point, change.value, i))
 }
 
-// Whether all pieces on the left of the changed point are. Only the last of them is touched.
-fn left_after(change: Change, knots: &[i32], values: &[i32]) -> bool
-    requires paired { Paired knots.now values.now }
-    requires point_in_bounds { change.point < length knots.now }
-    ensures { Decided (PiecesAfter change knots.now values.now 0 change.point) result }
-{
-    let k = change.point;
-    if k == 0 {
-        return true;
-    }
-    if !one_after(change, knots, values, k - 1) {
-        return false;
-    }
-    all(knots, values, 0, k - 1)
-}
-
-// Whether all pieces on its right are. Only the first of them is touched.
-fn right_after(change: Change, knots: &[i32], values: &[i32]) -> bool
-    requires paired { Paired knots.now values.now }
-    requires point_in_bounds { change.point < length knots.now }
-    ensures { Decided (PiecesAfter change knots.now values.now change.point (length knots.now - 1)) result }
-{
-    let k = change.point;
-    if knots.len() - k < 2 {
-        return true;
-    }
-    if !one_after(change, knots, values, k) {
-        return false;
-    }
-    all(knots, values, k + 1, knots.len() - 1)
-}
-
-// Whether all pieces are, as they would be after the change.
+// Whether all pieces are, as they would be after the change. At most two are touched by it: the one on the left of the changed point, and the one on its right.
 pub(crate) fn all_after(change: Change, knots: &[i32], values: &[i32]) -> bool
     requires paired { Paired knots.now values.now }
     requires point_in_bounds { change.point < length knots.now }
     ensures { Decided (PiecesAfter change knots.now values.now 0 (length knots.now - 1)) result }
 {
-    if !left_after(change, knots, values) {
-        return false;
-    }
-    right_after(change, knots, values)
+    let k = change.point;
+    let last = knots.len() - 1;
+    (k == 0 || one_after(change, knots, values, k - 1) && all(knots, values, 0, k - 1))
+        && (k == last || one_after(change, knots, values, k) && all(knots, values, k + 1, last))
 }

@@ -1,6 +1,5 @@
 -- Worked examples of the definitions, each by computing it.
-use Rattle.std.specs.Prelude.{ℕ, ◌≡◌, refl, List, [], ◌∷◌}
-use Rattle.words.specs.declared.split.Word.TheVariants.{At, Nothing}
+use Rattle.std.specs.Prelude.{ℕ, ◌≡◌, refl, List, [], ◌∷◌, Some, None}
 use Rattle.words.specs.Words.{front, next_word, words_after, words_of}
 use Rattle.words.specs.Lines.{without_return}
 
@@ -12,11 +11,11 @@ words_of_line : words_of line ≡ (97 ∷ 98 ∷ []) ∷ (99 ∷ []) ∷ []
 unfolding line words_after
 words_of_line = refl
 
-second_word : next_word line 2 ≡ At 4 5
+second_word : next_word line 2 ≡ Some (record { start = 4; end = 5 })
 unfolding line front
 second_word = refl
 
-no_third_word : next_word line 5 ≡ Nothing
+no_third_word : next_word line 5 ≡ None
 unfolding line front
 no_third_word = refl
 

@@ -1,12 +1,12 @@
 -- Walking a line word by word gives its words: each step of `next_word` takes the first of the words that are left.
-use Rattle.std.specs.Prelude.{ℕ, suc, ◌+◌, ◌-◌, ◌≤◌, ◌<◌, refl, Bool, true, false, not, length, take, drop}
+use Rattle.std.specs.Prelude.{ℕ, suc, ◌+◌, ◌-◌, ◌≤◌, ◌<◌, refl, Bool, true, false, not, length, take, drop, Option, Some, None}
 use Rattle.std.proofs.Math.Path.{◌≡◌, ap}
 use Rattle.std.proofs.Common.{sym, ◌∙◌, arith, ltb-true, ltb-false, length-drop, drop_of_length-le, drop-cons, drop-drop}
 use Rattle.std.specs.Bool.{beq}
 use mathlib.Core.List.{List, [], ◌∷◌, ◌++◌, append_assoc, append-nil}
 use Rattle.std.proofs.Math.Nat.{add-sub_cancel_left}
 use Rattle.std.proofs.Math.Dec.{ltb}
-use Rattle.words.specs.declared.split.Word.TheVariants.{At, Nothing}
+use Rattle.words.specs.declared.split.Word.{Word}
 use Rattle.words.specs.Runs.{by_test, front_within}
 use Rattle.words.specs.Words.{is_separator, alike, front, run_end, next_word, close, words_after, words_of, part_of}
 
@@ -111,18 +111,18 @@ module _ (line : List ℕ) (from : ℕ) where
       }
 
   -- where it finds a word, that is the first
-  pub a_word : (s e : ℕ) → next_word line from ≡ At s e → Found line from s e
-  a_word s e p =
+  pub a_word : (word : Word) → next_word line from ≡ Some word → Found line from word.start word.end
+  a_word word p =
       by_test (ltb start (length line))
       (λ (t : ltb start (length line) ≡ true).
-      let q : At start (run_end (alike false) line start) ≡ At s e = rw t at p in
-      let same_start : start ≡ s = cc in
-      let same_end : run_end (alike false) line start ≡ e = cc in
-      rw (← same_start, ← same_end) (at_start (ltb-true _ _ t)))
+      let here : Word = record { start = start; end = run_end (alike false) line start } in
+      let q : ◌≡◌ {A = Option Word} (Some here) (Some word) = rw t at p in
+      let same : here ≡ word = cc in
+      rw (← same) (at_start (ltb-true _ _ t)))
       (λ (t : ltb start (length line) ≡ false). let z : ◌≡◌ {A = ℕ} 0 1 = cc (rw t at p) in absurd (omega arith))
 
   -- where it finds none, there is none
-  pub no_word : next_word line from ≡ Nothing → words_of (drop from line) ≡ []
+  pub no_word : next_word line from ≡ None → words_of (drop from line) ≡ []
   unfolding words_after
   no_word p =
       by_test (ltb start (length line))

@@ -1,8 +1,7 @@
 -- What the words of a line are. A line is the list of its bytes.
-use Rattle.std.specs.Prelude.{ℕ, suc, ◌+◌, ◌-◌, Bool, true, false, cond, List, [], ◌∷◌, ◌++◌, length, take, drop, ltb, eqb}
+use Rattle.std.specs.Prelude.{ℕ, suc, ◌+◌, ◌-◌, Bool, true, false, cond, List, [], ◌∷◌, ◌++◌, length, take, drop, ltb, eqb, Option, Some, None}
 use Rattle.std.specs.Bool.{beq}
 use Rattle.words.specs.declared.split.Word.{Word}
-use Rattle.words.specs.declared.split.Word.TheVariants.{At, Nothing}
 
 -- a space or a tab separates words; any other byte belongs to one
 abbrev pub is_separator : ℕ → Bool
@@ -22,12 +21,12 @@ abbrev pub run_end : (ℕ → Bool) → List ℕ → ℕ → ℕ
 run_end test line from = from + front test (drop from line)
 
 -- the word that starts at `start`, where the line goes so far
-abbrev word_from : List ℕ → ℕ → Word
-word_from line start = cond (ltb start (length line)) (At start (run_end (alike false) line start)) Nothing
+abbrev word_from : List ℕ → ℕ → Option Word
+word_from line start = cond (ltb start (length line)) (Some (record { start = start; end = run_end (alike false) line start })) None
 
 -- the next word starts at the first position, `from` or after it, that holds no separator, and ends before the next separator or
 -- with the line; there is none where separators alone are left
-abbrev pub next_word : List ℕ → ℕ → Word
+abbrev pub next_word : List ℕ → ℕ → Option Word
 next_word line from = word_from line (run_end (alike true) line from)
 
 -- a word put before others, where it is not empty

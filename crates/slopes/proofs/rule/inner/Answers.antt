@@ -1,127 +1,88 @@
--- `slopes::rule::inner` meets its contract: each way through the code is one case of the rule. What the test of the product says is looked up by what it says, and not by how the code spells it.
-use mathlib.Core.Path.{◌≡◌, refl, sym, ◌∙◌, ap, subst}
-use mathlib.Core.Bool.{true, false}
-use mathlib.Core.List.{List, [], ◌∷◌}
-use lib.IntN.{ℤ, pos, neg_ℤ, ◌-ℤ◌, ◌*ℤ◌}
-use lib.Signed.{◌≤ℤ◌, ◌<ℤ◌, le_z, lt_z}
-use mir.Syntax.{w32, w64}
-use mir.Val.{to_z, of_z}
-use mir.Facts.{to_z-of_z}
+-- Each way through the code is one case of the rule. What the test of the product says is looked up by what it says, and not by how the code spells it.
+use Rattle.std.specs.Prelude.{◌≡◌, true, false, [], ◌∷◌, ℤ, pos, neg_ℤ, ◌*ℤ◌, ◌≤ℤ◌, ◌<ℤ◌}
+use Rattle.std.proofs.Common.{sym, ◌∙◌, ap, ap₂, subst, to_z, of_z}
+use Rattle.std.specs.Int.{w32, w64}
+use Rattle.std.specs.Int.Signed.{le_z, lt_z}
 use Rattle.integers.specs.Ring.{ring, quote}
-use Rattle.integers.specs.Within.{Within}
-use Rattle.integers.specs.Sizes.{Known, known, fits, plain_is, code}
+use Rattle.integers.specs.Sizes.{known, fits, plain_is, code, returned}
 use Rattle.integers.specs.Tests.{tests, passed, passed_at_most, failed}
-use Rattle.integers.specs.Arguments.{arguments, plainly₅, as_coded₂, as_coded₃}
-use Rattle.cubic.specs.Slopes.{mean}
+use Rattle.cubic.specs.Slopes.{mean, inner_slope}
 use Rattle.cubic.proofs.Inner.{inner_level, both_up, inner_up, both_down, inner_down}
-use Rattle.rules.specs.Known.{UnitSize, known_unit, known_width, known_rise}
-use Rattle.slopes.specs.Sizes.{PieceWithin, Up, Product, Mean, turned, mean_within}
+use Rattle.rules.specs.declared.limits.SlopeUnit.{SlopeUnit}
+use Rattle.rules.specs.declared.limits.Extent.{Extent}
+use Rattle.slopes.specs.Sizes.{beside}
+use Rattle.slopes.specs.Cases.{same_pieces}
 use Rattle.slopes.proofs.rule.inner.Goals as goal
 
 abbrev coded : ℤ → ℤ
 coded x = to_z w64 (of_z w64 x)
 
--- the unit and the two pieces
-module _ {U h₁ z₁ h₂ z₂ : ℤ} (u : UnitSize U) (p : PieceWithin h₁ z₁) (q : PieceWithin h₂ z₂) where
-  abbrev given : List Known
-  given = known_unit U u ∷ known_width h₁ p.width ∷ known_rise z₁ p.rise ∷ known_width h₂ q.width ∷ known_rise z₂ q.rise ∷ []
+-- what the tests say of the two pieces: neither is level, and both fall or both rise
+module _ (unit : SlopeUnit) (left right : Extent) (agree : le_z (coded (coded left.z *ℤ coded right.z)) (pos 0) ≡ false) where
+  positive : pos 0 <ℤ (left.z *ℤ right.z)
+  positive = failed (beside unit left right) agree (search tests depth 30 fits 9000) tt
 
-  above : le_z (coded (coded z₁ *ℤ coded z₂)) (pos 0) ≡ false → pos 0 <ℤ (z₁ *ℤ z₂)
-  above e = failed given e (search tests depth 30 fits 9000) tt
+  module _ (falls : lt_z (coded left.z) (pos 0) ≡ true) where
+    down : left.z <ℤ pos 0
+    down = passed (beside unit left right) falls (search tests depth 30 fits 9000) tt
 
-  down : lt_z (coded z₁) (pos 0) ≡ true → z₁ <ℤ pos 0
-  down e = passed given e (search tests depth 30 fits 9000) tt
+    right_falls : pos 0 <ℤ neg_ℤ right.z
+    right_falls = (both_down unit.size left.h left.z right.h right.z positive down).1
 
-  up : lt_z (coded z₁) (pos 0) ≡ false → pos 0 ≤ℤ z₁
-  up e = failed given e (search tests depth 30 fits 9000) tt
+    is_falling : neg_ℤ (mean unit.size left.h (neg_ℤ left.z) right.h (neg_ℤ right.z)) ≡ inner_slope unit.size left.h left.z right.h right.z
+    is_falling = inner_down unit.size left.h left.z right.h right.z positive down
 
-  -- two falls, each of which is a rise turned over
-  falls : pos 0 <ℤ (z₁ *ℤ z₂) → z₁ <ℤ pos 0 → Up h₁ (neg_ℤ z₁) × Up h₂ (neg_ℤ z₂)
-  falls a d =
-      let b = both_down U h₁ z₁ h₂ z₂ a d in
-      (record { within = turned p; up = b.0 }, record { within = turned q; up = b.1 })
+  module _ (rises : lt_z (coded left.z) (pos 0) ≡ false) where
+    up : pos 0 ≤ℤ left.z
+    up = failed (beside unit left right) rises (search tests depth 30 fits 9000) tt
 
-  twice_turned : Product (neg_ℤ z₁) (neg_ℤ z₂) (z₁ *ℤ z₂)
-  twice_turned = record { is = ring (z₁ ∷ z₂ ∷ []) (search quote depth 30 fits 9000) tt }
+    right_rises : pos 0 <ℤ right.z
+    right_rises = (both_up unit.size left.h left.z right.h right.z positive up).1
 
-  -- the mean of two falls, as it was handed on, and its size
-  fallen : {r : ℤ} → Mean (coded U) (coded h₁) (coded (pos 0 -ℤ coded z₁)) (coded h₂) (coded (pos 0 -ℤ coded z₂)) r → r ≡ mean U h₁ (neg_ℤ z₁) h₂ (neg_ℤ z₂)
-  fallen {r} m = (plainly₅ given (λ (U h₁ z₁ h₂ z₂ : ℤ). Mean U h₁ z₁ h₂ z₂ r) m (search code depth 30 fits 9000) (search arguments depth 30 fits 9000) tt).is
+    is_rising : mean unit.size left.h left.z right.h right.z ≡ inner_slope unit.size left.h left.z right.h right.z
+    is_rising = inner_up unit.size left.h left.z right.h right.z positive up
 
-  risen : {r : ℤ} → Mean (coded U) (coded h₁) (coded z₁) (coded h₂) (coded z₂) r → r ≡ mean U h₁ z₁ h₂ z₂
-  risen {r} m = (plainly₅ given (λ (U h₁ z₁ h₂ z₂ : ℤ). Mean U h₁ z₁ h₂ z₂ r) m (search code depth 30 fits 9000) (search arguments depth 30 fits 9000) tt).is
+pub overflow_mul-both : goal.overflow_mul-both
+overflow_mul-both c = fits (beside c.args.unit c.args.left c.args.right) (search code depth 30 fits 9000) tt
 
 pub returns-then-both-le0 : goal.returns-then-both-le0
 returns-then-both-le0 c =
-    let s = c.args in
-    inner_level s.unit s.h1 s.z1 s.h2 s.z2
-    (passed_at_most (given c.requires.unit_size c.requires.piece_within c.requires.piece_within_2) c.if-both-le0.true (search tests depth 30 fits 9000) tt)
+    let a = c.args in
+    inner_level a.unit.size a.left.h a.left.z a.right.h a.right.z (passed_at_most (beside a.unit a.left a.right) c.if-both-le0.true (search tests depth 30 fits 9000) tt)
 
 -- ---- two falls
 
-pub mean-requires-clause-up_2 : goal.mean-requires-clause-up_2
-mean-requires-clause-up_2 c =
-    let s = c.args in
-    let u = c.requires.unit_size in
-    let p = c.requires.piece_within in
-    let q = c.requires.piece_within_2 in
-    let e : le_z (coded (coded s.z1 *ℤ coded s.z2)) (pos 0) ≡ false = assumption in
-    as_coded₂ (given u p q) Up (search arguments depth 30 fits 9000) tt (falls u p q (above u p q e) (down u p q c.if-z1-lt0.true)).1
+pub mean-requires-clause-right_rises : goal.mean-requires-clause-right_rises
+mean-requires-clause-right_rises c =
+    let a = c.args in
+    subst (λ (z : ℤ). pos 0 <ℤ z) (sym c.mirrored-then-left-lt0.ensures.z) (right_falls a.unit a.left a.right (assumption) c.if-left-lt0.true)
 
-pub mean-requires-clause-product : goal.mean-requires-clause-product
-mean-requires-clause-product c =
-    let u = c.requires.unit_size in
-    let p = c.requires.piece_within in
-    let q = c.requires.piece_within_2 in
-    as_coded₃ (given u p q) Product (search arguments depth 30 fits 9000) tt (twice_turned u p q)
+turned_twice : (x y : ℤ) {m n : ℤ} → m ≡ neg_ℤ x → n ≡ neg_ℤ y → x *ℤ y ≡ m *ℤ n
+turned_twice x y e f = ring (x ∷ y ∷ []) (search quote depth 30 fits 9000) tt ∙ ap₂ ◌*ℤ◌ (sym e) (sym f)
+
+pub mean-requires-clause-both : goal.mean-requires-clause-both
+mean-requires-clause-both c =
+    plain_is {Γ = beside c.args.unit c.args.left c.args.right} (search code depth 30 fits 9000) tt ∙ turned_twice c.args.left.z c.args.right.z c.mirrored.ensures.z c.mirrored-then-left-lt0.ensures.z
 
 pub overflow_sub-result : goal.overflow_sub-result
-overflow_sub-result c =
-    let s = c.args in
-    let u = c.requires.unit_size in
-    let p = c.requires.piece_within in
-    let q = c.requires.piece_within_2 in
-    let e : le_z (coded (coded s.z1 *ℤ coded s.z2)) (pos 0) ≡ false = assumption in
-    let f = falls u p q (above u p q e) (down u p q c.if-z1-lt0.true) in
-    fits (known c.mean.result 805306368 (subst (Within 805306368) (sym (fallen u p q c.mean.ensures)) (mean_within u f.0 f.1)) ∷ []) (search code depth 30 fits 9000) tt
+overflow_sub-result c = fits (known c.mean.result 805306368 c.mean.ensures.size ∷ []) (search code depth 30 fits 9000) tt
 
-pub returns-then-z1-lt0 : goal.returns-then-z1-lt0
-returns-then-z1-lt0 c =
-    let s = c.args in
-    let u = c.requires.unit_size in
-    let p = c.requires.piece_within in
-    let q = c.requires.piece_within_2 in
-    let e : le_z (coded (coded s.z1 *ℤ coded s.z2)) (pos 0) ≡ false = assumption in
-    let a = above u p q e in
-    let d = down u p q c.if-z1-lt0.true in
-    let f = falls u p q a d in
-    plain_is {Γ = known c.mean.result 805306368 (subst (Within 805306368) (sym (fallen u p q c.mean.ensures)) (mean_within u f.0 f.1)) ∷ []} (search code depth 30 fits 9000) tt
-    ∙ ap neg_ℤ (fallen u p q c.mean.ensures)
-    ∙ inner_down s.unit s.h1 s.z1 s.h2 s.z2 a d
+pub returns-then-left-lt0 : goal.returns-then-left-lt0
+returns-then-left-lt0 c =
+    let a = c.args in
+    let m = c.mirrored.ensures in
+    let n = c.mirrored-then-left-lt0.ensures in
+    plain_is {Γ = known c.mean.result 805306368 c.mean.ensures.size ∷ []} (search code depth 30 fits 9000) tt
+    ∙ ap neg_ℤ (c.mean.ensures.value ∙ same_pieces (mean a.unit.size) m.h m.z n.h n.z)
+    ∙ is_falling a.unit a.left a.right (assumption) c.if-left-lt0.true
 
 -- ---- two rises
 
-pub mean-requires-2-clause-up_2 : goal.mean-requires-2-clause-up_2
-mean-requires-2-clause-up_2 c =
-    let s = c.args in
-    let u = c.requires.unit_size in
-    let p = c.requires.piece_within in
-    let q = c.requires.piece_within_2 in
-    let e : le_z (coded (coded s.z1 *ℤ coded s.z2)) (pos 0) ≡ false = assumption in
-    let b = both_up s.unit s.h1 s.z1 s.h2 s.z2 (above u p q e) (up u p q c.if-z1-lt0.false) in
-    as_coded₂ (given u p q) Up (search arguments depth 30 fits 9000) tt (record { within = q; up = b.1 })
+pub mean-requires-2-clause-right_rises : goal.mean-requires-2-clause-right_rises
+mean-requires-2-clause-right_rises c = right_rises c.args.unit c.args.left c.args.right (assumption) c.if-left-lt0.false
 
-pub mean-requires-2-clause-product : goal.mean-requires-2-clause-product
-mean-requires-2-clause-product c =
-    as_coded₃ (given c.requires.unit_size c.requires.piece_within c.requires.piece_within_2) Product (search arguments depth 30 fits 9000) tt (record { is = refl })
+pub mean-requires-2-clause-both : goal.mean-requires-2-clause-both
+mean-requires-2-clause-both c = plain_is {Γ = beside c.args.unit c.args.left c.args.right} (search code depth 30 fits 9000) tt
 
 pub returns : goal.returns
-returns c =
-    let s = c.args in
-    let u = c.requires.unit_size in
-    let p = c.requires.piece_within in
-    let q = c.requires.piece_within_2 in
-    let e : le_z (coded (coded s.z1 *ℤ coded s.z2)) (pos 0) ≡ false = assumption in
-    to_z-of_z {w = w32} (record { sfits = c.mean-2.type_inv })
-    ∙ risen u p q c.mean-2.ensures
-    ∙ inner_up s.unit s.h1 s.z1 s.h2 s.z2 (above u p q e) (up u p q c.if-z1-lt0.false)
+returns c = returned w32 c.mean-2.type_inv c.mean-2.ensures.value ∙ is_rising c.args.unit c.args.left c.args.right (assumption) c.if-left-lt0.false

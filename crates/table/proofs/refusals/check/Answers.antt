@@ -1,0 +1,25 @@
+-- The pieces are asked where the outline has passed.
+use Rattle.std.specs.Prelude.{refl, [], ◌∷◌}
+use Rattle.std.proofs.Common.{arith}
+use Rattle.std.proofs.lemmas.Result.{err_from_is_err_and}
+use Rattle.rules.specs.Numbered.{never_0}
+use Rattle.rules.specs.Order.{stopped, went_on}
+use Rattle.table.specs.Accepted.{unit_asked, lengths_asked, count_asked}
+use Rattle.table.proofs.refusals.check.Goals as goal
+
+pub returns-in_err-outline : goal.returns-in_err-outline
+returns-in_err-outline c =
+    let p = err_from_is_err_and c.from_residual.result c.from_residual.ensures.1 in
+    rw (p.1, p.2) (stopped (3 ∷ 4 ∷ 5 ∷ []) (never_0 c.in_err-outline.field-0.0.cause) c.in_err-outline.ensures)
+
+pub first-requires-clause-unit_within : goal.first-requires-clause-unit_within
+first-requires-clause-unit_within c = unit_asked refl c.in_ok-outline.ensures
+
+pub first-requires-clause-same_lengths : goal.first-requires-clause-same_lengths
+first-requires-clause-same_lengths c = lengths_asked refl c.in_ok-outline.ensures
+
+pub first-requires-clause-knots_nonzero : goal.first-requires-clause-knots_nonzero
+first-requires-clause-knots_nonzero c = omega (arith, (count_asked refl c.in_ok-outline.ensures).low)
+
+pub returns : goal.returns
+returns c = went_on refl c.in_ok-outline.ensures c.first.ensures
