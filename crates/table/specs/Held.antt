@@ -1,4 +1,4 @@
--- A table as it is lent, as the exact rules speak of it: the number of its slope unit, and what its lists hold.
+-- A table as it is lent, as the exact rules speak of it: the number of its slope unit, and what its lists hold. Whoever believes a promise about a lent table believes this file.
 use Rattle.table.specs.declared.Table as declared
 use Rattle.table.specs.Table.{Table, table}
 
