@@ -67,7 +67,9 @@ pub fn seek(points: GoodPoints<'_>, slopes: &[i32], position: i32) -> Option<Spo
     }
 }
 
-// Where a position lies in a table, or the refusal, in the order 12, 1, 2, 3, 4, 5, 6: the whole table is checked first, wherever the position lies.
+// Where a position lies in a table, or the refusal, in the order 12, 1, 2, 3, 4, 5, 6: the whole table is checked first, wherever the position lies. It is made part of
+// each caller, so that what it finds crosses in no record.
+#[inline(always)]
 pub fn find(table: Table<'_>, position: i32) -> Result<Inside, Refused>
     ensures { FoundAt (held table.entry) position result }
 {

@@ -116,8 +116,9 @@ fn first_fault(unit: SlopeUnit, last: Fault, left: End, right: End) -> Option<Fa
     None
 }
 
-// The first piece, `from` or after it, that has a fault up to `last`, with the first of its faults. A piece's right end is carried along as the next one's left, and the
-// slope unit is worked out once.
+// The first piece, `from` or after it, that has a fault up to `last`, with the first of its faults: the loop leaves with its number. A piece's right end is carried along as the
+// next one's left, and the slope unit is worked out once. It is made part of each caller, where `change` and `last` are known, so that no piece asks which they are.
+#[inline(always)]
 fn scan(table: Table<'_>, change: Option<Change>, last: Fault, from: usize) -> Option<Found>
     requires unit_within { UnitWithin table.s }
     requires same_lengths { SameLengths table.knots.now table.values.now table.slopes.now }
@@ -126,17 +127,24 @@ fn scan(table: Table<'_>, change: Option<Change>, last: Fault, from: usize) -> O
 {
     let unit = rules::unit(table.s);
     let mut left = end_at(table, change, last, from);
-    for i in from..table.knots.len() - 1 {
+    let mut i = from;
+    let (piece, fault) = loop {
+        if table.knots.len() - i < 2 {
+            return None;
+        }
         let right = end_at(table, change, last, i + 1);
         if let Some(fault) = first_fault(unit, last, left, right) {
-            return Some(Found { fault, piece: i });
+            break (i, fault);
         }
         left = right;
-    }
-    None
+        i += 1;
+    };
+    Some(Found { fault, piece })
 }
 
 // The refusal by the first of the causes of a piece, up to `last`, that holds, at the first piece of which it does. Behind a faulty piece only what is asked before its fault is asked.
+// It is made part of each caller for the sake of `scan`.
+#[inline(always)]
 pub(crate) fn first(table: Table<'_>, change: Option<Change>, last: Fault) -> Result<(), Refused>
     requires unit_within { UnitWithin table.s }
     requires same_lengths { SameLengths table.knots.now table.values.now table.slopes.now }

@@ -1,5 +1,5 @@
 -- What is found of a piece is found of the table that is asked.
-use Rattle.std.specs.Prelude.{refl, ℕ, ◌≤◌}
+use Rattle.std.specs.Prelude.{refl, ℕ, ◌+◌, ◌≤◌, ◌<◌, length}
 use Rattle.std.proofs.Common.{arith, below_more}
 use Rattle.table.specs.Held.{held}
 use Rattle.table.specs.Table.{Holds}
@@ -8,25 +8,20 @@ use Rattle.table.specs.Fault.{asked_there, fault_between}
 use Rattle.table.specs.Scan.{nothing_there, fault_there}
 use Rattle.table.proofs.search.scan.Goals as goal
 
-pub first_fault-requires-clause-knots : goal.first_fault-requires-clause-knots
-first_fault-requires-clause-knots c = (c.loop-i.invariant.end_is.knot_read.within, c.end_at-right.ensures.knot_read.within)
-
-pub first_fault-requires-clause-values : goal.first_fault-requires-clause-values
-first_fault-requires-clause-values c = (c.loop-i.invariant.end_is.value_read.within, c.end_at-right.ensures.value_read.within)
-
-pub returns-in-Some : goal.returns-in-Some
-returns-in-Some c =
+pub returns-then-table-i-lt2 : goal.returns-then-table-i-lt2
+returns-then-table-i-lt2 c =
     let t = held c.args.table in
-    let found =
-    fault_between c.args.change t (askable c.args.last) (omega (arith, c.loop-i-test.true)) c.unit-unit.ensures c.loop-i.invariant.end_is c.end_at-right.ensures c.in-Some.ensures in
-    fault_there (Holds (asked c.args.change t)) c.loop-i.invariant.sound (λ e. omega (arith, e, (askable c.in-Some.fault).low)) (omega arith) found
+    nothing_there (Holds (asked c.args.change t)) c.loop-i.invariant.sound _ (λ d q a b. asked_there c.args.change t d q a (omega (arith, b, (askable c.args.last).high))) (omega (arith, c.if-table-i-lt2.true))
 
 pub loop-i-preserved : goal.loop-i-preserved
 loop-i-preserved c =
     let t = held c.args.table in
+    let there : c.loop-i.i + 1 < length c.args.table.knots.now = omega (arith, c.loop-i.invariant.there, c.if-table-i-lt2.false) in
     let sound =
-    fault_between c.args.change t (askable c.args.last) (omega (arith, c.loop-i-test.true)) c.unit-unit.ensures c.loop-i.invariant.end_is c.end_at-right.ensures c.in_default.ensures in
+    fault_between c.args.change t (askable c.args.last) there c.unit-unit.ensures c.loop-i.invariant.end_is c.end_at-right.ensures c.in_default.ensures in
     record {
+      there = there;
+      behind = omega (arith, c.loop-i.invariant.behind);
       end_is = c.end_at-right.ensures;
       sound = below_more (λ (q : ℕ). c.args.from ≤ q → SoundAt (Holds (asked c.args.change t)) (fault_number c.args.last) q) _ c.loop-i.invariant.sound (λ _. is_sound _ refl sound);
     }
@@ -34,4 +29,6 @@ loop-i-preserved c =
 pub returns : goal.returns
 returns c =
     let t = held c.args.table in
-    nothing_there (Holds (asked c.args.change t)) c.loop-i.invariant.sound _ (λ d q a b. asked_there c.args.change t d q a (omega (arith, b, (askable c.args.last).high))) (omega arith)
+    let found =
+    fault_between c.args.change t (askable c.args.last) (omega (arith, c.loop-i.invariant.there, c.if-table-i-lt2.false)) c.unit-unit.ensures c.loop-i.invariant.end_is c.end_at-right.ensures c.in-Some.ensures in
+    fault_there (Holds (asked c.args.change t)) c.loop-i.invariant.sound (λ e. omega (arith, e, (askable c.in-Some.fault).low)) c.loop-i.invariant.behind found
