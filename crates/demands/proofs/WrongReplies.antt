@@ -1,9 +1,12 @@
 -- Wrong programs with the replies of the workbench, each refuted by the line that it would put into an empty buffer for one reply. A comment has the text of that line, and why it is wrong.
-use Rattle.std.specs.Prelude.{ℕ, refl, Bool, true, false, cond, T, eqb, ltb, Result, Ok, Err, List, [], ◌∷◌, ◌++◌, get_or, ℤ, pos, negsuc, Float, length}
-use Rattle.std.proofs.Common.{ap, sym, subst}
+use Rattle.std.specs.Prelude.{ℕ, zero, suc, ◌+◌, ◌/◌, ◌%◌, ◌≤◌, ◌≡◌, refl, Bool, true, false, cond, T, eqb, ltb, Result, Ok, Err, List, [], ◌∷◌, ◌++◌, get_or, drop, ℤ, pos, negsuc, Float, length}
+use Rattle.std.proofs.Common.{ap, sym, subst, ◌∙◌, arith, ltb-true, ltb-false}
 use Rattle.std.specs.Float.{fin}
-use Rattle.decimals.specs.Text.{spelled}
+use Rattle.words.specs.Runs.{by_test}
+use Rattle.words.specs.Lines.{Appended}
+use Rattle.decimals.specs.Text.{spelled, decimal_of}
 use Rattle.answers.specs.Filling.{filled}
+use Rattle.commands.specs.declared.Fault.{Fault}
 use Rattle.commands.specs.declared.Fault.TheVariants.{TooLong, NoCommand, TooFew, TooMany, NoList, NotDecimal, Beyond32, Beyond64, BeyondUnsigned}
 use Rattle.rules.specs.declared.Refused.{Refused}
 use Rattle.rules.specs.declared.Cause.{Cause}
@@ -11,9 +14,9 @@ use Rattle.rules.specs.declared.Cause.TheVariants as cause
 use Rattle.piece.specs.declared.Verdict.TheVariants.{Rising, Falling, Flat, Bends}
 use Rattle.drive.specs.declared.Answer.TheVariants.{Dwell, Move}
 use Rattle.replies.specs.declared.Reply.{Reply}
-use Rattle.replies.specs.declared.Reply.TheVariants.{Silent, Wrong, Done, Count, Judged, Valued, Driven, SlopeUnit}
+use Rattle.replies.specs.declared.Reply.TheVariants.{Silent, Wrong, Done, Count, Judged, Valued, Driven, SlopeUnit, Numbered}
 use Rattle.replies.specs.Floats.{float_as}
-use Rattle.replies.specs.Replies.{fault_line, line_of}
+use Rattle.replies.specs.Replies.{fault_line, refused_line, line_of}
 use Rattle.demands.specs.ByContract.{to_change}
 use Rattle.demands.specs.Refuting.{lists_differ}
 use Rattle.replies.proofs.append_reply.Reads as replies-append_reply
@@ -162,31 +165,6 @@ beyond_64_told_as_unsigned p = lists_differ tt (ap integers p.buffer)
 
 -- ---- a refusal: its number, its place and the number's cause
 
--- Whatever is refused is told by the number of a cause: its first digit is not 9 where a space is behind it, and else a `2` is. 9, 10, 11 and 99 are the numbers of no cause, so that
--- no answer is refused by them; a line that tells one of them is told of no answer at all.
-abbrev of_a_cause : (digit next : ℕ) → Bool
-of_a_cause digit next = cond (eqb next 32) (ltb digit 57) (eqb next 50)
-
-abbrev so_told : List ℕ → Bool
-so_told line = of_a_cause (get_or line 8 0) (get_or line 9 0)
-
-by_its_number : (c : Cause) (place : ℕ) {digit next : ℕ} {room more : List ℕ} {r : ℕ} → append (46 ∷ 46 ∷ 46 ∷ 46 ∷ 46 ∷ 46 ∷ 46 ∷ 46 ∷ 46 ∷ 46 ∷ room) 0 (Done (Err (record { cause = c; place = place }))) (114 ∷ 101 ∷ 102 ∷ 117 ∷ 115 ∷ 101 ∷ 100 ∷ 32 ∷ digit ∷ next ∷ more) r → T (of_a_cause digit next)
-unfolding line_of filled spelled
-by_its_number cause.Lengths place p = subst (λ (line : List ℕ). T (so_told line)) (sym p.buffer) tt
-by_its_number cause.Count place p = subst (λ (line : List ℕ). T (so_told line)) (sym p.buffer) tt
-by_its_number cause.Width place p = subst (λ (line : List ℕ). T (so_told line)) (sym p.buffer) tt
-by_its_number cause.Rise place p = subst (λ (line : List ℕ). T (so_told line)) (sym p.buffer) tt
-by_its_number cause.Bend place p = subst (λ (line : List ℕ). T (so_told line)) (sym p.buffer) tt
-by_its_number cause.Position place p = subst (λ (line : List ℕ). T (so_told line)) (sym p.buffer) tt
-by_its_number cause.Point place p = subst (λ (line : List ℕ). T (so_told line)) (sym p.buffer) tt
-by_its_number cause.Size place p = subst (λ (line : List ℕ). T (so_told line)) (sym p.buffer) tt
-by_its_number cause.SlopeUnit place p = subst (λ (line : List ℕ). T (so_told line)) (sym p.buffer) tt
-
-by_a_cause : (d : Result Unit Refused) {digit next : ℕ} {room more : List ℕ} {r : ℕ} → append (46 ∷ 46 ∷ 46 ∷ 46 ∷ 46 ∷ 46 ∷ 46 ∷ 46 ∷ 46 ∷ 46 ∷ room) 0 (Done d) (114 ∷ 101 ∷ 102 ∷ 117 ∷ 115 ∷ 101 ∷ 100 ∷ 32 ∷ digit ∷ next ∷ more) r → T (of_a_cause digit next)
-unfolding line_of filled
-by_a_cause (Ok done) p = absurd (lists_differ tt (ap integers p.buffer))
-by_a_cause (Err r) p = by_its_number r.cause r.place p
-
 -- `refused 3 at 2: a rise is outside its limits`: 3 is a width
 pub cause_of_another_number : writes (Done (Err (record { cause = cause.Width; place = 2 }))) (114 ∷ 101 ∷ 102 ∷ 117 ∷ 115 ∷ 101 ∷ 100 ∷ 32 ∷ 51 ∷ 32 ∷ 97 ∷ 116 ∷ 32 ∷ 50 ∷ 58 ∷ 32 ∷ 97 ∷ 32 ∷ 114 ∷ 105 ∷ 115 ∷ 101 ∷ 32 ∷ 105 ∷ 115 ∷ 32 ∷ 111 ∷ 117 ∷ 116 ∷ 115 ∷ 105 ∷ 100 ∷ 101 ∷ 32 ∷ 105 ∷ 116 ∷ 115 ∷ 32 ∷ 108 ∷ 105 ∷ 109 ∷ 105 ∷ 116 ∷ 115 ∷ 10 ∷ []) → ⊥
 unfolding line_of fault_line filled spelled
@@ -213,8 +191,9 @@ unfolding line_of fault_line filled spelled
 causes_counted_from_0 p = lists_differ tt (ap integers p.buffer)
 
 -- `refused 99 at 0: the slope unit is not in 0 to 8`: 99 has no cause
-pub no_cause_told_as_the_last : (d : Result Unit Refused) → writes (Done d) (114 ∷ 101 ∷ 102 ∷ 117 ∷ 115 ∷ 101 ∷ 100 ∷ 32 ∷ 57 ∷ 57 ∷ 32 ∷ 97 ∷ 116 ∷ 32 ∷ 48 ∷ 58 ∷ 32 ∷ 116 ∷ 104 ∷ 101 ∷ 32 ∷ 115 ∷ 108 ∷ 111 ∷ 112 ∷ 101 ∷ 32 ∷ 117 ∷ 110 ∷ 105 ∷ 116 ∷ 32 ∷ 105 ∷ 115 ∷ 32 ∷ 110 ∷ 111 ∷ 116 ∷ 32 ∷ 105 ∷ 110 ∷ 32 ∷ 48 ∷ 32 ∷ 116 ∷ 111 ∷ 32 ∷ 56 ∷ 10 ∷ []) → ⊥
-no_cause_told_as_the_last d p = by_a_cause d p
+pub no_cause_told_as_the_last : writes (Numbered 99 0) (114 ∷ 101 ∷ 102 ∷ 117 ∷ 115 ∷ 101 ∷ 100 ∷ 32 ∷ 57 ∷ 57 ∷ 32 ∷ 97 ∷ 116 ∷ 32 ∷ 48 ∷ 58 ∷ 32 ∷ 116 ∷ 104 ∷ 101 ∷ 32 ∷ 115 ∷ 108 ∷ 111 ∷ 112 ∷ 101 ∷ 32 ∷ 117 ∷ 110 ∷ 105 ∷ 116 ∷ 32 ∷ 105 ∷ 115 ∷ 32 ∷ 110 ∷ 111 ∷ 116 ∷ 32 ∷ 105 ∷ 110 ∷ 32 ∷ 48 ∷ 32 ∷ 116 ∷ 111 ∷ 32 ∷ 56 ∷ 10 ∷ []) → ⊥
+unfolding line_of fault_line filled spelled
+no_cause_told_as_the_last p = lists_differ tt (ap integers p.buffer)
 
 -- `refused 12 at 0: `: 12 has a cause
 pub unit_refused_without_a_cause : writes (Done (Err (record { cause = cause.SlopeUnit; place = 0 }))) (114 ∷ 101 ∷ 102 ∷ 117 ∷ 115 ∷ 101 ∷ 100 ∷ 32 ∷ 49 ∷ 50 ∷ 32 ∷ 97 ∷ 116 ∷ 32 ∷ 48 ∷ 58 ∷ 32 ∷ 10 ∷ []) → ⊥
@@ -226,21 +205,25 @@ pub unit_told_as_a_size : writes (Done (Err (record { cause = cause.SlopeUnit; p
 unfolding line_of fault_line filled spelled
 unit_told_as_a_size p = lists_differ tt (ap integers p.buffer)
 
--- `refused 9 at 0: the slope unit is not in 0 to 8`: 9 has no cause, and yet is counted: its place is not taken by 12
-pub empty_causes_passed_over : (d : Result Unit Refused) → writes (Done d) (114 ∷ 101 ∷ 102 ∷ 117 ∷ 115 ∷ 101 ∷ 100 ∷ 32 ∷ 57 ∷ 32 ∷ 97 ∷ 116 ∷ 32 ∷ 48 ∷ 58 ∷ 32 ∷ 116 ∷ 104 ∷ 101 ∷ 32 ∷ 115 ∷ 108 ∷ 111 ∷ 112 ∷ 101 ∷ 32 ∷ 117 ∷ 110 ∷ 105 ∷ 116 ∷ 32 ∷ 105 ∷ 115 ∷ 32 ∷ 110 ∷ 111 ∷ 116 ∷ 32 ∷ 105 ∷ 110 ∷ 32 ∷ 48 ∷ 32 ∷ 116 ∷ 111 ∷ 32 ∷ 56 ∷ 10 ∷ []) → ⊥
-empty_causes_passed_over d p = by_a_cause d p
+-- `refused 9 at 0: the slope unit is not in 0 to 8`: 9 has no cause, and yet is counted
+pub empty_causes_passed_over : writes (Numbered 9 0) (114 ∷ 101 ∷ 102 ∷ 117 ∷ 115 ∷ 101 ∷ 100 ∷ 32 ∷ 57 ∷ 32 ∷ 97 ∷ 116 ∷ 32 ∷ 48 ∷ 58 ∷ 32 ∷ 116 ∷ 104 ∷ 101 ∷ 32 ∷ 115 ∷ 108 ∷ 111 ∷ 112 ∷ 101 ∷ 32 ∷ 117 ∷ 110 ∷ 105 ∷ 116 ∷ 32 ∷ 105 ∷ 115 ∷ 32 ∷ 110 ∷ 111 ∷ 116 ∷ 32 ∷ 105 ∷ 110 ∷ 32 ∷ 48 ∷ 32 ∷ 116 ∷ 111 ∷ 32 ∷ 56 ∷ 10 ∷ []) → ⊥
+unfolding line_of fault_line filled spelled
+empty_causes_passed_over p = lists_differ tt (ap integers p.buffer)
 
 -- `refused 10 at 0: the slope unit is not in 0 to 8`: nor has 10
-pub cause_of_12_for_10 : (d : Result Unit Refused) → writes (Done d) (114 ∷ 101 ∷ 102 ∷ 117 ∷ 115 ∷ 101 ∷ 100 ∷ 32 ∷ 49 ∷ 48 ∷ 32 ∷ 97 ∷ 116 ∷ 32 ∷ 48 ∷ 58 ∷ 32 ∷ 116 ∷ 104 ∷ 101 ∷ 32 ∷ 115 ∷ 108 ∷ 111 ∷ 112 ∷ 101 ∷ 32 ∷ 117 ∷ 110 ∷ 105 ∷ 116 ∷ 32 ∷ 105 ∷ 115 ∷ 32 ∷ 110 ∷ 111 ∷ 116 ∷ 32 ∷ 105 ∷ 110 ∷ 32 ∷ 48 ∷ 32 ∷ 116 ∷ 111 ∷ 32 ∷ 56 ∷ 10 ∷ []) → ⊥
-cause_of_12_for_10 d p = by_a_cause d p
+pub cause_of_12_for_10 : writes (Numbered 10 0) (114 ∷ 101 ∷ 102 ∷ 117 ∷ 115 ∷ 101 ∷ 100 ∷ 32 ∷ 49 ∷ 48 ∷ 32 ∷ 97 ∷ 116 ∷ 32 ∷ 48 ∷ 58 ∷ 32 ∷ 116 ∷ 104 ∷ 101 ∷ 32 ∷ 115 ∷ 108 ∷ 111 ∷ 112 ∷ 101 ∷ 32 ∷ 117 ∷ 110 ∷ 105 ∷ 116 ∷ 32 ∷ 105 ∷ 115 ∷ 32 ∷ 110 ∷ 111 ∷ 116 ∷ 32 ∷ 105 ∷ 110 ∷ 32 ∷ 48 ∷ 32 ∷ 116 ∷ 111 ∷ 32 ∷ 56 ∷ 10 ∷ []) → ⊥
+unfolding line_of fault_line filled spelled
+cause_of_12_for_10 p = lists_differ tt (ap integers p.buffer)
 
 -- `refused 11 at 0: the slope unit is not in 0 to 8`: nor 11
-pub cause_of_12_for_11 : (d : Result Unit Refused) → writes (Done d) (114 ∷ 101 ∷ 102 ∷ 117 ∷ 115 ∷ 101 ∷ 100 ∷ 32 ∷ 49 ∷ 49 ∷ 32 ∷ 97 ∷ 116 ∷ 32 ∷ 48 ∷ 58 ∷ 32 ∷ 116 ∷ 104 ∷ 101 ∷ 32 ∷ 115 ∷ 108 ∷ 111 ∷ 112 ∷ 101 ∷ 32 ∷ 117 ∷ 110 ∷ 105 ∷ 116 ∷ 32 ∷ 105 ∷ 115 ∷ 32 ∷ 110 ∷ 111 ∷ 116 ∷ 32 ∷ 105 ∷ 110 ∷ 32 ∷ 48 ∷ 32 ∷ 116 ∷ 111 ∷ 32 ∷ 56 ∷ 10 ∷ []) → ⊥
-cause_of_12_for_11 d p = by_a_cause d p
+pub cause_of_12_for_11 : writes (Numbered 11 0) (114 ∷ 101 ∷ 102 ∷ 117 ∷ 115 ∷ 101 ∷ 100 ∷ 32 ∷ 49 ∷ 49 ∷ 32 ∷ 97 ∷ 116 ∷ 32 ∷ 48 ∷ 58 ∷ 32 ∷ 116 ∷ 104 ∷ 101 ∷ 32 ∷ 115 ∷ 108 ∷ 111 ∷ 112 ∷ 101 ∷ 32 ∷ 117 ∷ 110 ∷ 105 ∷ 116 ∷ 32 ∷ 105 ∷ 115 ∷ 32 ∷ 110 ∷ 111 ∷ 116 ∷ 32 ∷ 105 ∷ 110 ∷ 32 ∷ 48 ∷ 32 ∷ 116 ∷ 111 ∷ 32 ∷ 56 ∷ 10 ∷ []) → ⊥
+unfolding line_of fault_line filled spelled
+cause_of_12_for_11 p = lists_differ tt (ap integers p.buffer)
 
 -- `refused 9 at 0: piece too large for the exact float answer`: it does not keep the one before it
-pub cause_of_8_for_9 : (d : Result Unit Refused) → writes (Done d) (114 ∷ 101 ∷ 102 ∷ 117 ∷ 115 ∷ 101 ∷ 100 ∷ 32 ∷ 57 ∷ 32 ∷ 97 ∷ 116 ∷ 32 ∷ 48 ∷ 58 ∷ 32 ∷ 112 ∷ 105 ∷ 101 ∷ 99 ∷ 101 ∷ 32 ∷ 116 ∷ 111 ∷ 111 ∷ 32 ∷ 108 ∷ 97 ∷ 114 ∷ 103 ∷ 101 ∷ 32 ∷ 102 ∷ 111 ∷ 114 ∷ 32 ∷ 116 ∷ 104 ∷ 101 ∷ 32 ∷ 101 ∷ 120 ∷ 97 ∷ 99 ∷ 116 ∷ 32 ∷ 102 ∷ 108 ∷ 111 ∷ 97 ∷ 116 ∷ 32 ∷ 97 ∷ 110 ∷ 115 ∷ 119 ∷ 101 ∷ 114 ∷ 10 ∷ []) → ⊥
-cause_of_8_for_9 d p = by_a_cause d p
+pub cause_of_8_for_9 : writes (Numbered 9 0) (114 ∷ 101 ∷ 102 ∷ 117 ∷ 115 ∷ 101 ∷ 100 ∷ 32 ∷ 57 ∷ 32 ∷ 97 ∷ 116 ∷ 32 ∷ 48 ∷ 58 ∷ 32 ∷ 112 ∷ 105 ∷ 101 ∷ 99 ∷ 101 ∷ 32 ∷ 116 ∷ 111 ∷ 111 ∷ 32 ∷ 108 ∷ 97 ∷ 114 ∷ 103 ∷ 101 ∷ 32 ∷ 102 ∷ 111 ∷ 114 ∷ 32 ∷ 116 ∷ 104 ∷ 101 ∷ 32 ∷ 101 ∷ 120 ∷ 97 ∷ 99 ∷ 116 ∷ 32 ∷ 102 ∷ 108 ∷ 111 ∷ 97 ∷ 116 ∷ 32 ∷ 97 ∷ 110 ∷ 115 ∷ 119 ∷ 101 ∷ 114 ∷ 10 ∷ []) → ⊥
+unfolding line_of fault_line filled spelled
+cause_of_8_for_9 p = lists_differ tt (ap integers p.buffer)
 
 -- `ok`: it is not done
 pub refused_told_as_done : writes (Done (Err (record { cause = cause.Width; place = 2 }))) (111 ∷ 107 ∷ 10 ∷ []) → ⊥
@@ -251,6 +234,148 @@ refused_told_as_done p = lists_differ tt (ap integers p.buffer)
 pub refused_and_nothing_told : writes (Done (Err (record { cause = cause.Width; place = 2 }))) [] → ⊥
 unfolding line_of fault_line filled spelled
 refused_and_nothing_told p = lists_differ tt (ap integers p.buffer)
+
+-- ---- the number of no cause, in what is no refusal by its number
+
+-- What any other reply says of a refusal is told by the number of a cause: its first digit is not 9 where a space is behind it, and else a `2` is. 9, 10, 11 and 99 are the numbers
+-- of no cause, so that a line that tells one of them, whatever it says behind it, is the line of no reply but of a refusal by its number.
+abbrev Other : Reply → Type 0
+Other reply = (number place : ℕ) → reply ≡ Numbered number place → ⊥
+
+-- so is each reply of another case, whatever it holds; `Done` among them
+abbrev not_by_number : Reply → Bool
+not_by_number Silent = true
+not_by_number (Wrong n fault) = true
+not_by_number (Done d) = true
+not_by_number (Count n) = true
+not_by_number (Judged d) = true
+not_by_number (Valued d) = true
+not_by_number (Driven d) = true
+not_by_number (SlopeUnit s) = true
+not_by_number (Numbered number place) = false
+
+pub of_another_case : (reply : Reply) → T (not_by_number reply) → Other reply
+of_another_case reply t number place e = subst (λ (told : Reply). T (not_by_number told)) e t
+
+pub every_done : (d : Result Unit Refused) → Other (Done d)
+every_done d = of_another_case (Done d) tt
+
+abbrev of_a_cause : (digit next : ℕ) → Bool
+of_a_cause digit next = cond (eqb next 32) (ltb digit 57) (eqb next 50)
+
+abbrev so_told : List ℕ → Bool
+so_told line = of_a_cause (get_or line 8 0) (get_or line 9 0)
+
+-- ten bytes and more, and such a line over them
+abbrev ten_and : List ℕ → List ℕ
+ten_and room = 46 ∷ 46 ∷ 46 ∷ 46 ∷ 46 ∷ 46 ∷ 46 ∷ 46 ∷ 46 ∷ 46 ∷ room
+
+abbrev tells_refused : (room line : List ℕ) (digit next : ℕ) (more : List ℕ) (r : ℕ) → Type 0
+tells_refused room line digit next more r = Appended (ten_and room) 0 line (114 ∷ 101 ∷ 102 ∷ 117 ∷ 115 ∷ 101 ∷ 100 ∷ 32 ∷ digit ∷ next ∷ more) r
+
+-- the digits of a number begin with one that is no more than `9`
+record Begins (digits : List ℕ) : Type 0 where
+  first : ℕ
+  others : List ℕ
+  is : digits ≡ first ∷ others
+  low : first ≤ 57
+
+begins : (f n : ℕ) → n ≤ f → Begins (spelled f n)
+unfolding spelled
+begins zero n l = record { first = _; others = _; is = refl; low = omega (arith, l) }
+begins (suc f) n l =
+    by_test (ltb n 10)
+    (λ (t : ltb n 10 ≡ true). rw t (record { first = 48 + n; others = []; is = refl; low = omega (arith, ltb-true n 10 t) }))
+    (λ (t : ltb n 10 ≡ false).
+    let before = begins f (n / 10) (omega (arith, ltb-false n 10 t)) in
+    rw t (record { first = before.first; others = before.others ++ ((48 + n % 10) ∷ []); is = ap (λ (digits : List ℕ). digits ++ ((48 + n % 10) ∷ [])) before.is; low = before.low }))
+
+module _ {digit next : ℕ} {room more : List ℕ} {r : ℕ} where
+  refused_by : (c : Cause) (place : ℕ) → tells_refused room (refused_line (record { cause = c; place = place })) digit next more r → T (of_a_cause digit next)
+  unfolding filled spelled
+  refused_by cause.Lengths place p = subst (λ (line : List ℕ). T (so_told line)) (sym p.buffer) tt
+  refused_by cause.Count place p = subst (λ (line : List ℕ). T (so_told line)) (sym p.buffer) tt
+  refused_by cause.Width place p = subst (λ (line : List ℕ). T (so_told line)) (sym p.buffer) tt
+  refused_by cause.Rise place p = subst (λ (line : List ℕ). T (so_told line)) (sym p.buffer) tt
+  refused_by cause.Bend place p = subst (λ (line : List ℕ). T (so_told line)) (sym p.buffer) tt
+  refused_by cause.Position place p = subst (λ (line : List ℕ). T (so_told line)) (sym p.buffer) tt
+  refused_by cause.Point place p = subst (λ (line : List ℕ). T (so_told line)) (sym p.buffer) tt
+  refused_by cause.Size place p = subst (λ (line : List ℕ). T (so_told line)) (sym p.buffer) tt
+  refused_by cause.SlopeUnit place p = subst (λ (line : List ℕ). T (so_told line)) (sym p.buffer) tt
+
+  no_fault : (n : ℕ) (fault : Fault) → tells_refused room (fault_line n fault) digit next more r → ⊥
+  unfolding fault_line filled
+  no_fault n TooLong p = lists_differ tt (ap integers p.buffer)
+  no_fault n NoCommand p = lists_differ tt (ap integers p.buffer)
+  no_fault n TooFew p = lists_differ tt (ap integers p.buffer)
+  no_fault n TooMany p = lists_differ tt (ap integers p.buffer)
+  no_fault n NoList p = lists_differ tt (ap integers p.buffer)
+  no_fault n (NotDecimal k) p = lists_differ tt (ap integers p.buffer)
+  no_fault n (Beyond32 k) p = lists_differ tt (ap integers p.buffer)
+  no_fault n (Beyond64 k) p = lists_differ tt (ap integers p.buffer)
+  no_fault n (BeyondUnsigned k) p = lists_differ tt (ap integers p.buffer)
+
+  -- nothing is put into the buffer
+  no_silence : tells_refused room [] digit next more r → ⊥
+  no_silence p = lists_differ tt (ap integers (p.buffer ∙ ap (λ (n : ℕ). drop n (ten_and room)) p.counted))
+
+  -- a line that begins with a digit
+  no_digit : {b : ℕ} {bs : List ℕ} → b ≤ 57 → tells_refused room (b ∷ bs) digit next more r → ⊥
+  no_digit l p = let e = ap (λ (line : List ℕ). get_or line 0 0) p.buffer in omega (arith, l, e)
+
+  no_natural : (n : ℕ) → tells_refused room ((decimal_of n ++ []) ++ (10 ∷ [])) digit next more r → ⊥
+  no_natural n p =
+      let first = begins n n (omega arith) in
+      no_digit first.low (subst (λ (digits : List ℕ). tells_refused room ((digits ++ []) ++ (10 ∷ [])) digit next more r) first.is p)
+
+  by_a_cause : (reply : Reply) → Other reply → tells_refused room (line_of reply) digit next more r → T (of_a_cause digit next)
+  unfolding line_of filled
+  by_a_cause Silent other p = absurd (no_silence p)
+  by_a_cause (Wrong n fault) other p = absurd (no_fault n fault p)
+  by_a_cause (Done (Ok done)) other p = absurd (lists_differ tt (ap integers p.buffer))
+  by_a_cause (Done (Err r)) other p = refused_by r.cause r.place p
+  by_a_cause (Count n) other p = absurd (lists_differ tt (ap integers p.buffer))
+  by_a_cause (Judged (Ok Rising)) other p = absurd (lists_differ tt (ap integers p.buffer))
+  by_a_cause (Judged (Ok Falling)) other p = absurd (lists_differ tt (ap integers p.buffer))
+  by_a_cause (Judged (Ok Flat)) other p = absurd (lists_differ tt (ap integers p.buffer))
+  by_a_cause (Judged (Ok Bends)) other p = absurd (lists_differ tt (ap integers p.buffer))
+  by_a_cause (Judged (Err r)) other p = refused_by r.cause r.place p
+  by_a_cause (Valued (Ok (pos n))) other p = absurd (no_natural n p)
+  by_a_cause (Valued (Ok (negsuc n))) other p = absurd (lists_differ tt (ap integers p.buffer))
+  by_a_cause (Valued (Err r)) other p = refused_by r.cause r.place p
+  by_a_cause (Driven (Ok (Dwell level))) other p = absurd (lists_differ tt (ap integers p.buffer))
+  by_a_cause (Driven (Ok (Move m))) other p = absurd (lists_differ tt (ap integers p.buffer))
+  by_a_cause (Driven (Err r)) other p = refused_by r.cause r.place p
+  by_a_cause (SlopeUnit s) other p = absurd (no_natural s p)
+  by_a_cause (Numbered number place) other p = absurd (other number place refl)
+
+-- `refused 99 at 0: the slope unit is not in 0 to 8`
+pub no_cause_told_as_the_last_by_any_other : (reply : Reply) → Other reply → writes reply (114 ∷ 101 ∷ 102 ∷ 117 ∷ 115 ∷ 101 ∷ 100 ∷ 32 ∷ 57 ∷ 57 ∷ 32 ∷ 97 ∷ 116 ∷ 32 ∷ 48 ∷ 58 ∷ 32 ∷ 116 ∷ 104 ∷ 101 ∷ 32 ∷ 115 ∷ 108 ∷ 111 ∷ 112 ∷ 101 ∷ 32 ∷ 117 ∷ 110 ∷ 105 ∷ 116 ∷ 32 ∷ 105 ∷ 115 ∷ 32 ∷ 110 ∷ 111 ∷ 116 ∷ 32 ∷ 105 ∷ 110 ∷ 32 ∷ 48 ∷ 32 ∷ 116 ∷ 111 ∷ 32 ∷ 56 ∷ 10 ∷ []) → ⊥
+no_cause_told_as_the_last_by_any_other reply other p = by_a_cause reply other p
+
+-- `refused 9 at 0: the slope unit is not in 0 to 8`
+pub empty_causes_passed_over_by_any_other : (reply : Reply) → Other reply → writes reply (114 ∷ 101 ∷ 102 ∷ 117 ∷ 115 ∷ 101 ∷ 100 ∷ 32 ∷ 57 ∷ 32 ∷ 97 ∷ 116 ∷ 32 ∷ 48 ∷ 58 ∷ 32 ∷ 116 ∷ 104 ∷ 101 ∷ 32 ∷ 115 ∷ 108 ∷ 111 ∷ 112 ∷ 101 ∷ 32 ∷ 117 ∷ 110 ∷ 105 ∷ 116 ∷ 32 ∷ 105 ∷ 115 ∷ 32 ∷ 110 ∷ 111 ∷ 116 ∷ 32 ∷ 105 ∷ 110 ∷ 32 ∷ 48 ∷ 32 ∷ 116 ∷ 111 ∷ 32 ∷ 56 ∷ 10 ∷ []) → ⊥
+empty_causes_passed_over_by_any_other reply other p = by_a_cause reply other p
+
+-- `refused 10 at 0: the slope unit is not in 0 to 8`
+pub cause_of_12_for_10_by_any_other : (reply : Reply) → Other reply → writes reply (114 ∷ 101 ∷ 102 ∷ 117 ∷ 115 ∷ 101 ∷ 100 ∷ 32 ∷ 49 ∷ 48 ∷ 32 ∷ 97 ∷ 116 ∷ 32 ∷ 48 ∷ 58 ∷ 32 ∷ 116 ∷ 104 ∷ 101 ∷ 32 ∷ 115 ∷ 108 ∷ 111 ∷ 112 ∷ 101 ∷ 32 ∷ 117 ∷ 110 ∷ 105 ∷ 116 ∷ 32 ∷ 105 ∷ 115 ∷ 32 ∷ 110 ∷ 111 ∷ 116 ∷ 32 ∷ 105 ∷ 110 ∷ 32 ∷ 48 ∷ 32 ∷ 116 ∷ 111 ∷ 32 ∷ 56 ∷ 10 ∷ []) → ⊥
+cause_of_12_for_10_by_any_other reply other p = by_a_cause reply other p
+
+-- `refused 11 at 0: the slope unit is not in 0 to 8`
+pub cause_of_12_for_11_by_any_other : (reply : Reply) → Other reply → writes reply (114 ∷ 101 ∷ 102 ∷ 117 ∷ 115 ∷ 101 ∷ 100 ∷ 32 ∷ 49 ∷ 49 ∷ 32 ∷ 97 ∷ 116 ∷ 32 ∷ 48 ∷ 58 ∷ 32 ∷ 116 ∷ 104 ∷ 101 ∷ 32 ∷ 115 ∷ 108 ∷ 111 ∷ 112 ∷ 101 ∷ 32 ∷ 117 ∷ 110 ∷ 105 ∷ 116 ∷ 32 ∷ 105 ∷ 115 ∷ 32 ∷ 110 ∷ 111 ∷ 116 ∷ 32 ∷ 105 ∷ 110 ∷ 32 ∷ 48 ∷ 32 ∷ 116 ∷ 111 ∷ 32 ∷ 56 ∷ 10 ∷ []) → ⊥
+cause_of_12_for_11_by_any_other reply other p = by_a_cause reply other p
+
+-- `refused 9 at 0: piece too large for the exact float answer`
+pub cause_of_8_for_9_by_any_other : (reply : Reply) → Other reply → writes reply (114 ∷ 101 ∷ 102 ∷ 117 ∷ 115 ∷ 101 ∷ 100 ∷ 32 ∷ 57 ∷ 32 ∷ 97 ∷ 116 ∷ 32 ∷ 48 ∷ 58 ∷ 32 ∷ 112 ∷ 105 ∷ 101 ∷ 99 ∷ 101 ∷ 32 ∷ 116 ∷ 111 ∷ 111 ∷ 32 ∷ 108 ∷ 97 ∷ 114 ∷ 103 ∷ 101 ∷ 32 ∷ 102 ∷ 111 ∷ 114 ∷ 32 ∷ 116 ∷ 104 ∷ 101 ∷ 32 ∷ 101 ∷ 120 ∷ 97 ∷ 99 ∷ 116 ∷ 32 ∷ 102 ∷ 108 ∷ 111 ∷ 97 ∷ 116 ∷ 32 ∷ 97 ∷ 110 ∷ 115 ∷ 119 ∷ 101 ∷ 114 ∷ 10 ∷ []) → ⊥
+cause_of_8_for_9_by_any_other reply other p = by_a_cause reply other p
+
+-- `refused 9 at 0: `
+pub no_cause_yet_by_any_other : (reply : Reply) → Other reply → writes reply (114 ∷ 101 ∷ 102 ∷ 117 ∷ 115 ∷ 101 ∷ 100 ∷ 32 ∷ 57 ∷ 32 ∷ 97 ∷ 116 ∷ 32 ∷ 48 ∷ 58 ∷ 32 ∷ 10 ∷ []) → ⊥
+no_cause_yet_by_any_other reply other p = by_a_cause reply other p
+
+-- `refused 99 at 0: `
+pub no_cause_by_any_other : (reply : Reply) → Other reply → writes reply (114 ∷ 101 ∷ 102 ∷ 117 ∷ 115 ∷ 101 ∷ 100 ∷ 32 ∷ 57 ∷ 57 ∷ 32 ∷ 97 ∷ 116 ∷ 32 ∷ 48 ∷ 58 ∷ 32 ∷ 10 ∷ []) → ⊥
+no_cause_by_any_other reply other p = by_a_cause reply other p
 
 -- ---- what is done, how many, and the verdicts
 
@@ -507,10 +632,10 @@ pub record RightReplies : Type 0 where
   pub refused : writes (Done (Err (record { cause = cause.Width; place = 2 }))) (114 ∷ 101 ∷ 102 ∷ 117 ∷ 115 ∷ 101 ∷ 100 ∷ 32 ∷ 51 ∷ 32 ∷ 97 ∷ 116 ∷ 32 ∷ 50 ∷ 58 ∷ 32 ∷ 97 ∷ 32 ∷ 119 ∷ 105 ∷ 100 ∷ 116 ∷ 104 ∷ 32 ∷ 105 ∷ 115 ∷ 32 ∷ 110 ∷ 111 ∷ 116 ∷ 32 ∷ 105 ∷ 110 ∷ 32 ∷ 49 ∷ 32 ∷ 116 ∷ 111 ∷ 32 ∷ 49 ∷ 48 ∷ 50 ∷ 52 ∷ 10 ∷ [])
   -- `refused 12 at 0: the slope unit is not in 0 to 8`
   pub unit_refused : writes (Done (Err (record { cause = cause.SlopeUnit; place = 0 }))) (114 ∷ 101 ∷ 102 ∷ 117 ∷ 115 ∷ 101 ∷ 100 ∷ 32 ∷ 49 ∷ 50 ∷ 32 ∷ 97 ∷ 116 ∷ 32 ∷ 48 ∷ 58 ∷ 32 ∷ 116 ∷ 104 ∷ 101 ∷ 32 ∷ 115 ∷ 108 ∷ 111 ∷ 112 ∷ 101 ∷ 32 ∷ 117 ∷ 110 ∷ 105 ∷ 116 ∷ 32 ∷ 105 ∷ 115 ∷ 32 ∷ 110 ∷ 111 ∷ 116 ∷ 32 ∷ 105 ∷ 110 ∷ 32 ∷ 48 ∷ 32 ∷ 116 ∷ 111 ∷ 32 ∷ 56 ∷ 10 ∷ [])
-  -- never `refused 9 at 0: `, as 9 has no cause
-  pub no_cause_yet : (d : Result Unit Refused) → writes (Done d) (114 ∷ 101 ∷ 102 ∷ 117 ∷ 115 ∷ 101 ∷ 100 ∷ 32 ∷ 57 ∷ 32 ∷ 97 ∷ 116 ∷ 32 ∷ 48 ∷ 58 ∷ 32 ∷ 10 ∷ []) → ⊥
-  -- never `refused 99 at 0: `, as 99 has no cause
-  pub no_cause : (d : Result Unit Refused) → writes (Done d) (114 ∷ 101 ∷ 102 ∷ 117 ∷ 115 ∷ 101 ∷ 100 ∷ 32 ∷ 57 ∷ 57 ∷ 32 ∷ 97 ∷ 116 ∷ 32 ∷ 48 ∷ 58 ∷ 32 ∷ 10 ∷ []) → ⊥
+  -- `refused 9 at 0: `
+  pub no_cause_yet : writes (Numbered 9 0) (114 ∷ 101 ∷ 102 ∷ 117 ∷ 115 ∷ 101 ∷ 100 ∷ 32 ∷ 57 ∷ 32 ∷ 97 ∷ 116 ∷ 32 ∷ 48 ∷ 58 ∷ 32 ∷ 10 ∷ [])
+  -- `refused 99 at 0: `
+  pub no_cause : writes (Numbered 99 0) (114 ∷ 101 ∷ 102 ∷ 117 ∷ 115 ∷ 101 ∷ 100 ∷ 32 ∷ 57 ∷ 57 ∷ 32 ∷ 97 ∷ 116 ∷ 32 ∷ 48 ∷ 58 ∷ 32 ∷ 10 ∷ [])
   -- `ok`
   pub done : writes is_done (111 ∷ 107 ∷ 10 ∷ [])
   -- `ok 4`
@@ -546,8 +671,8 @@ right_replies =
       beyond_unsigned = record { counted = refl; buffer = refl };
       refused = record { counted = refl; buffer = refl };
       unit_refused = record { counted = refl; buffer = refl };
-      no_cause_yet = λ d p. by_a_cause d p;
-      no_cause = λ d p. by_a_cause d p;
+      no_cause_yet = record { counted = refl; buffer = refl };
+      no_cause = record { counted = refl; buffer = refl };
       done = record { counted = refl; buffer = refl };
       count = record { counted = refl; buffer = refl };
       falling = record { counted = refl; buffer = refl };

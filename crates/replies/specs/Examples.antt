@@ -7,7 +7,7 @@ use Rattle.commands.specs.declared.Fault.TheVariants.{TooLong, NoCommand, TooFew
 use Rattle.rules.specs.declared.Cause.TheVariants as cause
 use Rattle.piece.specs.declared.Verdict.TheVariants.{Rising, Falling, Flat, Bends}
 use Rattle.drive.specs.declared.Answer.TheVariants.{Dwell, Move}
-use Rattle.replies.specs.declared.Reply.TheVariants.{Silent, Wrong, Done, Count, Judged, Valued, Driven, SlopeUnit}
+use Rattle.replies.specs.declared.Reply.TheVariants.{Silent, Wrong, Done, Count, Judged, Valued, Driven, SlopeUnit, Numbered}
 use Rattle.replies.specs.Floats.{float_as}
 use Rattle.replies.specs.Replies.{fault_line, line_of}
 
@@ -48,8 +48,12 @@ pub record Worked : Type 0 where
   pub point_refused : line_of (Done (Err (record { cause = cause.Point; place = 0 }))) ≡ 114 ∷ 101 ∷ 102 ∷ 117 ∷ 115 ∷ 101 ∷ 100 ∷ 32 ∷ 55 ∷ 32 ∷ 97 ∷ 116 ∷ 32 ∷ 48 ∷ 58 ∷ 32 ∷ 110 ∷ 111 ∷ 32 ∷ 112 ∷ 111 ∷ 105 ∷ 110 ∷ 116 ∷ 32 ∷ 119 ∷ 105 ∷ 116 ∷ 104 ∷ 32 ∷ 116 ∷ 104 ∷ 105 ∷ 115 ∷ 32 ∷ 110 ∷ 117 ∷ 109 ∷ 98 ∷ 101 ∷ 114 ∷ 10 ∷ []
   -- `refused 8 at 7: piece too large for the exact float answer`, LF
   pub size_refused : line_of (Done (Err (record { cause = cause.Size; place = 7 }))) ≡ 114 ∷ 101 ∷ 102 ∷ 117 ∷ 115 ∷ 101 ∷ 100 ∷ 32 ∷ 56 ∷ 32 ∷ 97 ∷ 116 ∷ 32 ∷ 55 ∷ 58 ∷ 32 ∷ 112 ∷ 105 ∷ 101 ∷ 99 ∷ 101 ∷ 32 ∷ 116 ∷ 111 ∷ 111 ∷ 32 ∷ 108 ∷ 97 ∷ 114 ∷ 103 ∷ 101 ∷ 32 ∷ 102 ∷ 111 ∷ 114 ∷ 32 ∷ 116 ∷ 104 ∷ 101 ∷ 32 ∷ 101 ∷ 120 ∷ 97 ∷ 99 ∷ 116 ∷ 32 ∷ 102 ∷ 108 ∷ 111 ∷ 97 ∷ 116 ∷ 32 ∷ 97 ∷ 110 ∷ 115 ∷ 119 ∷ 101 ∷ 114 ∷ 10 ∷ []
+  -- `refused 11 at 0: `, LF
+  pub no_cause_yet : line_of (Numbered 11 0) ≡ 114 ∷ 101 ∷ 102 ∷ 117 ∷ 115 ∷ 101 ∷ 100 ∷ 32 ∷ 49 ∷ 49 ∷ 32 ∷ 97 ∷ 116 ∷ 32 ∷ 48 ∷ 58 ∷ 32 ∷ 10 ∷ []
   -- `refused 12 at 0: the slope unit is not in 0 to 8`, LF
   pub unit_refused : line_of (Done (Err (record { cause = cause.SlopeUnit; place = 0 }))) ≡ 114 ∷ 101 ∷ 102 ∷ 117 ∷ 115 ∷ 101 ∷ 100 ∷ 32 ∷ 49 ∷ 50 ∷ 32 ∷ 97 ∷ 116 ∷ 32 ∷ 48 ∷ 58 ∷ 32 ∷ 116 ∷ 104 ∷ 101 ∷ 32 ∷ 115 ∷ 108 ∷ 111 ∷ 112 ∷ 101 ∷ 32 ∷ 117 ∷ 110 ∷ 105 ∷ 116 ∷ 32 ∷ 105 ∷ 115 ∷ 32 ∷ 110 ∷ 111 ∷ 116 ∷ 32 ∷ 105 ∷ 110 ∷ 32 ∷ 48 ∷ 32 ∷ 116 ∷ 111 ∷ 32 ∷ 56 ∷ 10 ∷ []
+  -- `refused 99 at 3: `, LF
+  pub no_cause : line_of (Numbered 99 3) ≡ 114 ∷ 101 ∷ 102 ∷ 117 ∷ 115 ∷ 101 ∷ 100 ∷ 32 ∷ 57 ∷ 57 ∷ 32 ∷ 97 ∷ 116 ∷ 32 ∷ 51 ∷ 58 ∷ 32 ∷ 10 ∷ []
   -- `ok`, LF
   pub done : line_of (Done (Ok tt)) ≡ 111 ∷ 107 ∷ 10 ∷ []
   -- `ok 40`, LF
@@ -106,7 +110,9 @@ worked =
       position_refused = refl;
       point_refused = refl;
       size_refused = refl;
+      no_cause_yet = refl;
       unit_refused = refl;
+      no_cause = refl;
       done = refl;
       count = refl;
       rising = refl;

@@ -1,5 +1,6 @@
 -- The line that each answer of the workbench is written as. Text is the list of its bytes. In a form, `#` is the place of the next number and `$` that of the cause of a refusal.
-use Rattle.std.specs.Prelude.{ℕ, Ok, Err, List, [], ◌∷◌, ◌++◌}
+use Rattle.std.specs.Prelude.{◌≡◌, refl, ℕ, Ok, Err, List, [], ◌∷◌, ◌++◌, slice_index_or}
+use Rattle.std.proofs.Common.{ap}
 use Rattle.answers.specs.declared.filling.Signed.{Signed}
 use Rattle.answers.specs.Filling.{natural_as, whole_as, filled}
 use Rattle.commands.specs.declared.Fault.{Fault}
@@ -13,7 +14,7 @@ use Rattle.piece.specs.declared.Verdict.TheVariants.{Rising, Falling, Flat, Bend
 use Rattle.drive.specs.declared.Answer.{Answer}
 use Rattle.drive.specs.declared.Answer.TheVariants.{Dwell, Move}
 use Rattle.replies.specs.declared.Reply.{Reply}
-use Rattle.replies.specs.declared.Reply.TheVariants.{Silent, Wrong, Done, Count, Judged, Valued, Driven, SlopeUnit}
+use Rattle.replies.specs.declared.Reply.TheVariants.{Silent, Wrong, Done, Count, Judged, Valued, Driven, SlopeUnit, Numbered}
 use Rattle.replies.specs.Floats.{float_as}
 
 -- a form with its numbers filled in, and an LF; it has no cause
@@ -126,6 +127,47 @@ refused = 114 ∷ 101 ∷ 102 ∷ 117 ∷ 115 ∷ 101 ∷ 100 ∷ 32 ∷ 35 ∷ 
 abbrev pub refused_line : Refused → List ℕ
 refused_line r = filled refused (cause_of r.cause) (natural_as (number_of r.cause) ∷ natural_as r.place ∷ []) ++ (10 ∷ [])
 
+-- the causes by their numbers, from 0, which refuses nothing; 9, 10 and 11 have none
+abbrev pub causes : List (List ℕ)
+causes =
+    []
+    ∷ lengths_differ
+    ∷ bad_count
+    ∷ bad_width
+    ∷ bad_rise
+    ∷ not_monotone
+    ∷ bad_position
+    ∷ no_point
+    ∷ too_large
+    ∷ []
+    ∷ []
+    ∷ []
+    ∷ bad_unit
+    ∷ []
+
+-- a number without a cause has an empty one
+abbrev pub cause_by_number : ℕ → List ℕ
+cause_by_number number = slice_index_or causes number []
+
+-- a refusal by its number and its place, of any number
+abbrev pub numbered_line : (number place : ℕ) → List ℕ
+numbered_line number place = filled refused (cause_by_number number) (natural_as number ∷ natural_as place ∷ []) ++ (10 ∷ [])
+
+-- each cause stands at its number, so that by that number its line is the same
+pub at_its_number : (c : Cause) → cause_by_number (number_of c) ≡ cause_of c
+at_its_number cause.Lengths = refl
+at_its_number cause.Count = refl
+at_its_number cause.Width = refl
+at_its_number cause.Rise = refl
+at_its_number cause.Bend = refl
+at_its_number cause.Position = refl
+at_its_number cause.Point = refl
+at_its_number cause.Size = refl
+at_its_number cause.SlopeUnit = refl
+
+pub numbered_as_refused : (r : Refused) → numbered_line (number_of r.cause) r.place ≡ refused_line r
+numbered_as_refused r = ap (λ (text : List ℕ). filled refused text (natural_as (number_of r.cause) ∷ natural_as r.place ∷ []) ++ (10 ∷ [])) (at_its_number r.cause)
+
 -- ---- the other answers
 
 -- `ok`
@@ -192,3 +234,4 @@ line_of (Valued (Err r)) = refused_line r
 line_of (Driven (Ok answer)) = told_line answer
 line_of (Driven (Err r)) = refused_line r
 line_of (SlopeUnit s) = line value (natural_as s ∷ [])
+line_of (Numbered number place) = numbered_line number place

@@ -1,8 +1,8 @@
 // A reply as bytes, each of which is promised, where `Display` promises none. Each template stands beside its numbers, in one call.
 ghost use Rattle.std.specs.Prelude.{◌≡◌, [], ◌∷◌, ◌++◌};
 ghost use Rattle.words.specs.Lines.{Appended};
-ghost use Rattle.answers.specs.Filling.{filled};
-ghost use Rattle.replies.specs.Replies.{cause_of, verdict_text, fault_line, refused_line, line_of};
+ghost use Rattle.answers.specs.Filling.{natural_as, filled};
+ghost use Rattle.replies.specs.Replies.{cause_of, cause_by_number, refused, verdict_text, fault_line, refused_line, line_of};
 
 use crate::Reply;
 use crate::written::float;
@@ -42,6 +42,13 @@ pub fn append_reply(into: &mut [u8], held: usize, reply: Reply) -> usize
         | Reply::Judged(Err(r))
         | Reply::Valued(Err(r))
         | Reply::Driven(Err(r)) => append_refusal(into, held, r),
+        Reply::Numbered(number, place) => append_refused(
+            into,
+            held,
+            number,
+            place,
+            text_of_number(number),
+        ),
     }
 }
 
@@ -99,17 +106,21 @@ fn append_fault(into: &mut [u8], held: usize, line: u64, fault: Fault) -> usize
 fn append_refusal(into: &mut [u8], held: usize, r: Refused) -> usize
     ensures { Appended into.old held (refused_line r) into.new result }
 {
-    let numbers = [
-        Signed::from(u64::from(r.cause.number())),
-        Signed::from(r.place as u64),
-    ];
-    let n = answers::fill(
+    append_refused(
         into,
         held,
-        b"refused # at #: $",
+        r.cause.number(),
+        r.place,
         text_of_cause(r.cause),
-        &numbers,
-    );
+    )
+}
+
+// A refusal's number, its place and the text of its cause, and an LF.
+fn append_refused(into: &mut [u8], held: usize, number: u32, place: usize, cause: &[u8]) -> usize
+    ensures { Appended into.old held (filled refused cause.now (natural_as number ∷ natural_as place ∷ []) ++ (10 ∷ [])) into.new result }
+{
+    let numbers = [Signed::from(u64::from(number)), Signed::from(place as u64)];
+    let n = answers::fill(into, held, b"refused # at #: $", cause, &numbers);
     words::append(into, n, b"\n")
 }
 
@@ -137,5 +148,23 @@ fn text_of_cause(cause: Cause) -> &'static [u8]
         Cause::Point => b"no point with this number",
         Cause::Size => b"piece too large for the exact float answer",
         Cause::SlopeUnit => b"the slope unit is not in 0 to 8",
+    }
+}
+
+// The text of the cause with this number; a number without a cause has none.
+fn text_of_number(number: u32) -> &'static [u8]
+    ensures { result.now ≡ cause_by_number number }
+{
+    match number {
+        1 => text_of_cause(Cause::Lengths),
+        2 => text_of_cause(Cause::Count),
+        3 => text_of_cause(Cause::Width),
+        4 => text_of_cause(Cause::Rise),
+        5 => text_of_cause(Cause::Bend),
+        6 => text_of_cause(Cause::Position),
+        7 => text_of_cause(Cause::Point),
+        8 => text_of_cause(Cause::Size),
+        12 => text_of_cause(Cause::SlopeUnit),
+        _ => b"",
     }
 }
