@@ -226,6 +226,6 @@ def bodies_of(project, file):
 
 
 def read_project(root):
-    """All the code but the exports: C calls them, and no program that is run here reaches them."""
+    """All the code but the exports: C calls them, and the programs that are run here reach only three, by `calls`."""
     paths = sorted(path.relative_to(root).as_posix() for path in root.glob("crates/*/src/*.rt"))
     return Project([File(path, (root / path).read_text()) for path in paths if crate_of(path) not in ("exports", "exports_c")])

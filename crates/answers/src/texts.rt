@@ -1,5 +1,4 @@
-// Texts that stand one after another in one row of bytes, each ended by an LF or by the end. No program of the project keeps its texts so; `entry` is there for those that do, and what
-// is shown of it holds.
+// Texts that stand one after another in one row of bytes, each ended by an LF or by the end. The program `calls` keeps its texts of what a drive is told so.
 ghost use Rattle.std.specs.Prelude.{◌≡◌};
 ghost use Rattle.answers.specs.Texts.{entry_of};
 

@@ -1,5 +1,5 @@
 // Calls of the libraries with what the workbench never gives them, or whose answer it does not show. It prints a line for each: the function, what it was given, and
-// what it answered.
+// what it answered. Every line, or part of one, is a template that is filled in and written at once.
 #![tactic(auto)]
 
 ghost use Rattle.std.specs.Prelude.{◌≤◌, ◌<◌, length};
@@ -7,6 +7,7 @@ ghost use Rattle.std.specs.Prelude.{◌≤◌, ◌<◌, length};
 use answers::Signed;
 use decimals::NotNumber;
 use drive::Answer;
+use exports::{Refusal, Told};
 use rules::Refused;
 use table::Table;
 
@@ -34,6 +35,24 @@ const UNLIKE_SLOPES: [i32; 3] = [10, 0, 0];
 
 // Fewer slopes than points.
 const FEWER: [i32; 2] = [10, 0];
+
+// What C is told that the drive does, by the kinds that `exports` has for it.
+const DWELLS: u32 = 0;
+
+const MOVES: u32 = 1;
+
+// The same as text, entry by entry. No entry has the last number, so that its text is empty: that of a kind that there is not.
+const TELLINGS: &[u8] = b"move\ndwell\ndwell at 0\ndwell at -0";
+
+const MOVE: usize = 0;
+
+const DWELL: usize = 1;
+
+const DWELL_AT_0: usize = 2;
+
+const DWELL_AT_MINUS_0: usize = 3;
+
+const NO_TELLING: usize = 4;
 
 // 2^62.
 const HALF: i64 = 1 << 62;
@@ -165,10 +184,11 @@ fn parts(rt: &(impl Print + Eprint), line: &[u8]) {
 
 fn reads(rt: &(impl Print + Eprint)) {
     for text in [b"".as_slice(), b"-".as_slice()] {
+        write(rt, b"whole '$' ", text, &[]);
         match decimals::whole(text) {
-            Ok(n) => write(rt, b"whole '$' #\n", text, &[Signed::from(n)]),
-            Err(NotNumber::NotDecimal) => write(rt, b"whole '$' no number\n", text, &[]),
-            Err(NotNumber::TooLarge) => write(rt, b"whole '$' too large\n", text, &[]),
+            Ok(n) => write(rt, b"#\n", b"", &[Signed::from(n)]),
+            Err(NotNumber::NotDecimal) => write(rt, b"no number\n", b"", &[]),
+            Err(NotNumber::TooLarge) => write(rt, b"too large\n", b"", &[]),
         }
     }
 }
@@ -229,53 +249,128 @@ fn done(rt: &(impl Print + Eprint), template: &[u8], s: u32, done: Result<(), Re
     write(rt, template, b"", &[natural(s as usize), cause, place]);
 }
 
-// The refusal's number and place stand behind the position, and then what is answered: piece 0, value 0 and a dwell at 0 where it is refused.
+// The refusal's number and place stand behind the position, and then what is answered.
 fn at(rt: &(impl Print + Eprint), table: Table<'_>, position: i32) {
-    let s = natural(table.s as usize);
-    let x = Signed::from(position);
+    placed(rt, b"locate # ", table.s, position);
+    located(rt, table, position);
+    placed(rt, b"evaluate # ", table.s, position);
+    valued(rt, table, position);
+    placed(rt, b"float_answer # ", table.s, position);
+    driven(rt, table, position);
+}
 
+fn placed(rt: &(impl Print + Eprint), template: &[u8], s: u32, position: i32) {
+    write(rt, template, b"", &[natural(s as usize)]);
+    write(rt, b"# ", b"", &[Signed::from(position)]);
+}
+
+// ---- what is answered in a table at a position: the refusal by the Rattle function, and behind it the piece, the value or what the drive is told by the function for C, which answers
+// one where it refuses too. So that both stand behind the line, a line more says where they differ.
+
+fn located(rt: &(impl Print + Eprint), table: Table<'_>, position: i32) {
     let piece = position::locate(table, position);
     let (cause, place) = refusal(piece.err());
-    write(
-        rt,
-        b"locate # # # # #\n",
-        b"",
-        &[s, x, cause, place, natural(piece.unwrap_or(0))],
+    let crossed = exports::negwafir_locate(
+        table.s,
+        table.knots,
+        table.values,
+        table.slopes,
+        position,
     );
-
-    let value = curve::evaluate(table, position);
-    let (cause, place) = refusal(value.err());
-    write(
+    write(rt, b"# # #\n", b"", &[cause, place, natural(crossed.piece)]);
+    compare(
         rt,
-        b"evaluate # # # # #\n",
-        b"",
-        &[s, x, cause, place, Signed::from(value.unwrap_or(0))],
-    );
-
-    let answer = drive::float_answer(table, position);
-    let (cause, place) = refusal(answer.err());
-    write(
-        rt,
-        b"float_answer # # # # $\n",
-        kind(answer.unwrap_or(Answer::Dwell(0.0))),
-        &[s, x, cause, place],
+        is_refusal(piece.err(), crossed.refusal) && piece.unwrap_or(0) == crossed.piece,
     );
 }
 
-// 0 has its sign: −0 is no less than 0, but 1 over it is.
-fn kind(answer: Answer) -> &'static [u8] {
-    match answer {
-        Answer::Move(_) => b"move",
-        Answer::Dwell(level) => {
-            if level != 0.0 {
-                b"dwell"
-            } else if 1.0 / level < 0.0 {
-                b"dwell at -0"
-            } else {
-                b"dwell at 0"
-            }
-        }
+fn valued(rt: &(impl Print + Eprint), table: Table<'_>, position: i32) {
+    let value = curve::evaluate(table, position);
+    let (cause, place) = refusal(value.err());
+    let crossed = exports::negwafir_evaluate(
+        table.s,
+        table.knots,
+        table.values,
+        table.slopes,
+        position,
+    );
+    write(rt, b"# # ", b"", &[cause, place]);
+    write(rt, b"#\n", b"", &[Signed::from(crossed.value)]);
+    compare(
+        rt,
+        is_refusal(value.err(), crossed.refusal) && value.unwrap_or(0) == crossed.value,
+    );
+}
+
+fn driven(rt: &(impl Print + Eprint), table: Table<'_>, position: i32) {
+    let answer = drive::float_answer(table, position);
+    let (cause, place) = refusal(answer.err());
+    let told = exports::negwafir_float_answer(
+        table.s,
+        table.knots,
+        table.values,
+        table.slopes,
+        position,
+    );
+    let text = answers::entry(TELLINGS, telling(told));
+    write(rt, b"# # $\n", text, &[cause, place]);
+    compare(
+        rt,
+        is_refusal(answer.err(), told.refusal)
+            && is_told(answer.unwrap_or(Answer::Dwell(0.0)), told),
+    );
+}
+
+fn telling(told: Told) -> usize {
+    match told.kind {
+        DWELLS => dwelling(told.left),
+        MOVES => MOVE,
+        _ => NO_TELLING,
     }
+}
+
+// 0 has its sign: −0 is no less than 0, but 1 over it is.
+fn dwelling(level: f64) -> usize {
+    if level != 0.0 {
+        return DWELL;
+    }
+    if 1.0 / level < 0.0 {
+        return DWELL_AT_MINUS_0;
+    }
+    DWELL_AT_0
+}
+
+fn compare(rt: &(impl Print + Eprint), alike: bool) {
+    if !alike {
+        write(rt, b"and C is answered otherwise\n", b"", &[]);
+    }
+}
+
+// Whether a refusal, or none, has crossed to C as what it is: none is 0 at place 0.
+fn is_refusal(refused: Option<Refused>, crossed: Refusal) -> bool {
+    match refused {
+        Some(refused) => {
+            crossed.number == refused.cause.number() && crossed.place == refused.place
+        }
+        None => crossed.number == 0 && crossed.place == 0,
+    }
+}
+
+// Whether an answer has crossed as what it is: a dwell has 0 above and 1 below.
+fn is_told(answer: Answer, told: Told) -> bool {
+    let (kind, left, numerator, denominator) = match answer {
+        Answer::Dwell(level) => (DWELLS, level, 0.0, 1.0),
+        Answer::Move(floats) => (MOVES, floats.left, floats.numerator, floats.denominator),
+    };
+    told.kind == kind
+        && is_same(told.left, left)
+        && is_same(told.numerator, numerator)
+        && is_same(told.denominator, denominator)
+}
+
+// By its sign too where it is 0: 1 over it has that.
+fn is_same(one: f64, other: f64) -> bool {
+    one == other && 1.0 / one == 1.0 / other
 }
 
 // ---- every position of level tables of several lengths. Their widths are 1, 2 and 3 in turn, so that each is a knot, or beside one, or outside
@@ -311,15 +406,9 @@ fn pieces_of(rt: &(impl Print + Eprint), knots: &[i32], level: &[i32])
         slopes: level,
     };
     for position in 0..=2 * knots.len() as i32 {
-        let piece = position::locate(table, position);
-        let (cause, place) = refusal(piece.err());
-        let piece = natural(piece.unwrap_or(0));
-        write(
-            rt,
-            b"locate # of # points # # #\n",
-            b"",
-            &[Signed::from(position), points, cause, place, piece],
-        );
+        write(rt, b"locate # ", b"", &[Signed::from(position)]);
+        write(rt, b"of # points ", b"", &[points]);
+        located(rt, table, position);
     }
 }
 
