@@ -229,5 +229,15 @@ module _ {left above below : Float} where
   pub the_numerator_for_the_left_value : Exactly binary64 (pos 0) left → DrivesC (table 8 (pos 0 ∷ pos 1 ∷ []) (pos 5 ∷ pos 6 ∷ []) (pos 256 ∷ pos 256 ∷ [])) (pos 0) 0 0 1 left above below → ⊥
   the_numerator_for_the_left_value e (moves d) = numbers_differ tt (one_number e (on_the_left (on_its_piece d (in_piece 0 tt tt tt))))
 
+-- beside a refusal, of which the code has no answer of its own until it crosses to C
+pub a_refusal_at_level_1_in-C : {x : ℤ} {left above below : Float} → Exactly binary64 (pos 1) left → DrivesC alone x 2 0 0 left above below → ⊥
+a_refusal_at_level_1_in-C e (dwells d nought one) = numbers_differ tt (one_number (subst (Exactly binary64 (pos 1)) (ap level_of (answers_nothing d.answer)) e) (plus_zero binary64))
+
+pub a_refusal_at_minus_zero_in-C : {x : ℤ} {above below : Float} → DrivesC alone x 2 0 0 −0 above below → ⊥
+a_refusal_at_minus_zero_in-C (dwells d nought one) = minus_zero_is_no_zero (subst (Exactly binary64 (pos 0)) (sym (ap level_of (answers_nothing d.answer))) (plus_zero binary64))
+
+pub a_refusal_that_moves_in-C : {x : ℤ} {left above below : Float} → DrivesC alone x 2 0 1 left above below → ⊥
+a_refusal_that_moves_in-C (moves d) = apart is_move (answers_nothing d.answer) tt tt
+
 pub a_dwell_with_minus_zero_above : {left below : Float} → DrivesC flat (pos 0) 0 0 0 left −0 below → ⊥
 a_dwell_with_minus_zero_above (dwells d nought one) = minus_zero_is_no_zero nought

@@ -345,6 +345,13 @@ every_position_refused p = not_outside (within tt tt) (so_it_holds (locates_say 
 pub located_among_the_values : LocatesC (table 8 0-2 (pos 5 ∷ pos 9 ∷ []) 0-0) (pos 1) 6 0 0 → ⊥
 located_among_the_values p = not_outside (within tt tt) (so_it_holds p.refusal)
 
+-- in C: a piece beside a refusal, by 2 and for its unit
+pub a_piece_where_refused_in-C : {x : ℤ} → LocatesC (table 8 [] [] []) x 2 0 1 → ⊥
+a_piece_where_refused_in-C p = omega (arith, answers_nothing p.piece)
+
+pub a_piece_in_no_unit_in-C : LocatesC (table 9 0-1-2 0-1-4 0-0-0) (pos 1) 12 0 1 → ⊥
+a_piece_in_no_unit_in-C p = omega (arith, answers_nothing p.piece)
+
 -- ---- `seek`: the numbers of a position in its piece
 
 abbrev pub SeeksNot : (t : Table) (x : ℤ) → Option Spot → Type 0
@@ -420,6 +427,13 @@ a_value_where_refused p = numbers_differ tt (answers_nothing (evaluates_say p).v
 -- in C: slopes and values handed on in the other order, so that it bends
 pub slopes_for_values : EvaluatesC (table 8 0-1 (pos 5 ∷ pos 6 ∷ []) (pos 256 ∷ pos 256 ∷ [])) (pos 0) 5 0 (pos 0) → ⊥
 slopes_for_values p = no_bend_there a_straight_rise (so_it_holds p.refusal)
+
+-- in C: a value beside a refusal, which the code has only there
+pub a_value_in_no_unit_in-C : EvaluatesC (table 9 0-1 0-1 (pos 256 ∷ pos 256 ∷ [])) (pos 1) 12 0 (pos 1) → ⊥
+a_value_in_no_unit_in-C p = numbers_differ tt (answers_nothing p.value)
+
+pub a_value_where_refused_in-C : {x : ℤ} → EvaluatesC (table 8 [] [] []) x 2 0 (pos 1) → ⊥
+a_value_where_refused_in-C p = numbers_differ tt (answers_nothing p.value)
 
 -- ---- `point` of `change`: (0,0), (1,1), (2,4), (3,7) as a build leaves them
 
