@@ -43,6 +43,10 @@ pub plainly₅ : (Γ : List Known) (R : ℤ → ℤ → ℤ → ℤ → ℤ → 
 plainly₅ Γ R {x = x} {y} {z} {u} h c t k =
     let s = and_yes (sound c) (sound_all t) k in plainly₄ Γ (R (plain c)) (subst (λ (v : ℤ). R v x y z u) (plain_is c s.0) h) t s.1
 
+pub as_coded₅ : (Γ : List Known) (R : ℤ → ℤ → ℤ → ℤ → ℤ → Type 0) {v x y z u : ℤ} (c : Code Γ v) (t : Four Γ x y z u) → T (sound c && sound_all t) → Plainly (R (plain c)) t → R v x y z u
+as_coded₅ Γ R {x = x} {y} {z} {u} c t k h =
+    let s = and_yes (sound c) (sound_all t) k in subst (λ (v : ℤ). R v x y z u) (sym (plain_is c s.0)) (as_coded₄ Γ (R (plain c)) t s.1 h)
+
 -- ---- of one, of two, and of three
 
 module _ (Γ : List Known) (R : ℤ → Type 0) {x : ℤ} where

@@ -1,7 +1,9 @@
--- Laws of `Appended`: of its parts, and of two pieces.
+-- Laws of `Appended`: of a buffer that was full, of one into which was copied what there was or had room, and of two pieces.
 use Rattle.std.specs.Prelude.{ℕ, zero, suc, ◌+◌, ◌-◌, ◌≤◌, ◌≡◌, refl, List, [], ◌∷◌, ◌++◌, length, take, drop}
-use Rattle.std.proofs.Common.{sym, ap, ap₂, ◌∙◌, append_assoc, arith, length-take, length-append, take-append-drop, drop-drop, take_at, drop_at, length-take-le}
-use Rattle.std.proofs.Math.Seq.{length_front}
+use Rattle.std.proofs.Common.{sym, ap, ap₂, ◌∙◌, append_assoc, arith, length-take, length-append, take-append-drop, drop-drop, take_at, drop_at, take_all, length-take-le}
+use Rattle.std.proofs.Math.Path.{subst⁻¹}
+use Rattle.std.proofs.Math.Seq.{length_front, paste, take-length, take-append_seam, take-append-add}
+use Rattle.std.proofs.lemmas.List.Edits.{take-paste, drop-paste, length-paste}
 use Rattle.words.specs.Lines.{joined, Appended}
 
 -- its two parts, at the answer, and its length
@@ -22,6 +24,25 @@ module _ {before more after : List ℕ} {held r : ℕ} where
 
     as_long : length after ≡ length before
     as_long = ap length p.buffer ∙ length_front before (joined before held more) r (sym p.counted ∙ sym (length-take-le r before cut))
+
+module _ (buffer : List ℕ) (held : ℕ) (more : List ℕ) where
+  -- nothing has room behind a full buffer
+  pub full : length buffer ≤ held → Appended buffer held more buffer (length buffer)
+  full h =
+      parts (omega arith)
+      (take-length buffer ∙ sym (take-append_seam buffer more) ∙ ap (λ (front : List ℕ). take (length buffer) (front ++ more)) (sym (take_all held buffer h))) refl
+
+  -- n bytes were copied, and no byte that had room was left out
+  pub copied : (n : ℕ) → held + n ≤ length buffer → n ≤ length more → take n more ≡ take (length buffer - held) more
+      → (after : List ℕ) → after ≡ paste buffer held more n → Appended buffer held more after (held + n)
+  copied n room some same after e =
+      let front = take held buffer in
+      let size : length front + (length buffer - held) ≡ length buffer = omega (arith, length-take-le held buffer (omega arith)) in
+      let long = length-paste buffer held more n room some in
+      subst⁻¹ (λ (l : List ℕ). Appended buffer held more l (held + n)) e
+      (parts (omega arith)
+      (take-paste buffer held more n (omega arith) some ∙ ap (λ (rest : List ℕ). front ++ rest) same ∙ sym (take-append-add front more (length buffer - held)) ∙ ap (λ (k : ℕ). take k (front ++ more)) size)
+      (drop-paste buffer held more n (omega arith) some))
 
 -- bytes behind a cut list, cut again, are bytes behind the whole list, cut
 cut_twice : (k : ℕ) (xs ys : List ℕ) → take k (take k xs ++ ys) ≡ take k (xs ++ ys)
