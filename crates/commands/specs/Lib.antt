@@ -1,3 +1,4 @@
 pub mod Commands
+pub mod Choosing
 pub mod Reading
 pub mod Examples

@@ -14,16 +14,23 @@ abbrev pub numbers_next : List ℕ → Option (ℤ × ℕ) → List ℤ
 numbers_next line (Some next) = next.0 ∷ numbers_of (words_of (drop next.1 line))
 numbers_next line None = []
 
+-- of any words in a row: where there is none, and of the first
+pub no_words_say : {words : List (List ℕ)} → words ≡ [] → numbers_of words ≡ []
+unfolding numbers_of
+no_words_say e = ap numbers_of e
+
+pub first_word_says : {words rest : List (List ℕ)} {word : List ℕ} {said : Result ℤ NotNumber} → words ≡ word ∷ rest → said ≡ number32_of word → numbers_of words ≡ before said (numbers_of rest)
+unfolding numbers_of
+first_word_says e p = rw (e, p)
+
 -- where no word is next there is none
 pub no_word_says : (line : List ℕ) (from : ℕ) → next_word line from ≡ None → numbers_of (words_of (drop from line)) ≡ []
-unfolding numbers_of
-no_word_says line from e = ap numbers_of (no_word line from e)
+no_word_says line from e = no_words_say (no_word line from e)
 
 -- the next word says a number before those behind it, or none
 module _ (line : List ℕ) (from : ℕ) (word : Word) (said : Result ℤ NotNumber) (found : next_word line from ≡ Some word) (e : said ≡ number32_of (part_of line word.start word.end)) where
-  a_word_says : numbers_of (words_of (drop from line)) ≡ before said (numbers_of (words_of (drop word.end line)))
-  unfolding numbers_of
-  a_word_says = rw ((a_word line from word found).first, e)
+  pub a_word_says : numbers_of (words_of (drop from line)) ≡ before said (numbers_of (words_of (drop word.end line)))
+  a_word_says = first_word_says (a_word line from word found).first e
 
   pub a_number : (n : ℤ) → Some n ≡ result_ok said → numbers_of (words_of (drop from line)) ≡ n ∷ numbers_of (words_of (drop word.end line))
   a_number n p = a_word_says ∙ by_said said p
