@@ -9,10 +9,12 @@ use Rattle.words.specs.Runs.{by_test}
 use Rattle.answers.specs.Texts.{entry_of}
 use Rattle.answers.specs.Passing.{none}
 
+-- a byte put before the first text
 abbrev onto : ℕ → List (List ℕ) → List (List ℕ)
 onto b [] = (b ∷ []) ∷ []
 onto b (text ∷ texts) = (b ∷ text) ∷ texts
 
+-- the texts, each without its LF: one more than there are LFs
 unfoldable pub texts_of : List ℕ → List (List ℕ)
 texts_of [] = [] ∷ []
 texts_of (b ∷ bs) = cond (b == 10) ([] ∷ texts_of bs) (onto b (texts_of bs))

@@ -28,9 +28,9 @@ module _ (U : ℤ) (ks vs : List ℤ) (k : ℕ) (x y : ℤ) where
   same_step list z i f g = ap₂ (λ (r l : ℤ). r -ℤ l) (get_or-set_other list k (i + 1) z (pos 0) g) (get_or-set_other list k i z (pos 0) f)
 
   -- a rule over two pieces that the point is no end of
-  same_rule : (rule : (h₁ z₁ h₂ z₂ : ℤ) → ℤ) (i j : ℕ) → (i ≡ k → ⊥) → (i + 1 ≡ k → ⊥) → (j ≡ k → ⊥) → (j + 1 ≡ k → ⊥)
-      → rule (step ks' i) (step vs' i) (step ks' j) (step vs' j) ≡ rule (step ks i) (step vs i) (step ks j) (step vs j)
-  same_rule rule i j a b c d = same_pieces rule (same_step ks x i a b) (same_step vs y i a b) (same_step ks x j c d) (same_step vs y j c d)
+  same_rule : (rule : (U h₁ z₁ h₂ z₂ : ℤ) → ℤ) (i j : ℕ) → (i ≡ k → ⊥) → (i + 1 ≡ k → ⊥) → (j ≡ k → ⊥) → (j + 1 ≡ k → ⊥)
+      → rule U (step ks' i) (step vs' i) (step ks' j) (step vs' j) ≡ rule U (step ks i) (step vs i) (step ks j) (step vs j)
+  same_rule rule i j a b c d = same_pieces rule refl (same_step ks x i a b) (same_step vs y i a b) (same_step ks x j c d) (same_step vs y j c d)
 
   pub same_slope : (i : ℕ) → i < length ks → (Renews (length ks) k i → ⊥) → built_slope U ks' vs' i ≡ built_slope U ks vs i
   same_slope i in_List far = ⊎_elim more two (<_or-≤ 2 (length ks))
@@ -50,20 +50,20 @@ module _ (U : ℤ) (ks vs : List ℤ) (k : ℕ) (x y : ℤ) where
       first : 2 < length ks → i ≡ 0 → built_slope U ks' vs' i ≡ built_slope U ks vs i
       first n e =
           sym (first_slope U ks' vs' i e (omega (arith, long)))
-          ∙ same_rule (end_slope U) 0 1 (λ (f : 0 ≡ k). far (at_it (omega arith))) (λ (f : 0 + 1 ≡ k). far (before_it (omega arith))) (λ (f : 1 ≡ k). far (before_it (omega arith))) (λ (f : 1 + 1 ≡ k). far (slope_0 (omega arith) e))
+          ∙ same_rule end_slope 0 1 (λ (f : 0 ≡ k). far (at_it (omega arith))) (λ (f : 0 + 1 ≡ k). far (before_it (omega arith))) (λ (f : 1 ≡ k). far (before_it (omega arith))) (λ (f : 1 + 1 ≡ k). far (slope_0 (omega arith) e))
           ∙ first_slope U ks vs i e n
 
       last : 2 < length ks → suc i ≡ length ks → built_slope U ks' vs' i ≡ built_slope U ks vs i
       last n l =
           sym (last_slope U ks' vs' i (omega arith) (omega (arith, long)))
-          ∙ same_rule (end_slope U) (i - 1) (i - 2) (λ (f : i - 1 ≡ k). far (behind_it (omega arith))) (λ (f : i - 1 + 1 ≡ k). far (at_it (omega arith))) (λ (f : i - 2 ≡ k). far (the_last (omega arith) (omega arith)))
+          ∙ same_rule end_slope (i - 1) (i - 2) (λ (f : i - 1 ≡ k). far (behind_it (omega arith))) (λ (f : i - 1 + 1 ≡ k). far (at_it (omega arith))) (λ (f : i - 2 ≡ k). far (the_last (omega arith) (omega arith)))
           (λ (f : i - 2 + 1 ≡ k). far (behind_it (omega arith)))
           ∙ last_slope U ks vs i (omega arith) (omega arith)
 
       inner : 0 < i → suc i < length ks → built_slope U ks' vs' i ≡ built_slope U ks vs i
       inner b l =
           sym (inner_slope_lem U ks' vs' i b (omega (arith, long)))
-          ∙ same_rule (inner_slope U) (i - 1) i (λ (f : i - 1 ≡ k). far (behind_it (omega arith))) (λ (f : i - 1 + 1 ≡ k). far (at_it (omega arith))) (λ (f : i ≡ k). far (at_it f)) (λ (f : i + 1 ≡ k). far (before_it f))
+          ∙ same_rule inner_slope (i - 1) i (λ (f : i - 1 ≡ k). far (behind_it (omega arith))) (λ (f : i - 1 + 1 ≡ k). far (at_it (omega arith))) (λ (f : i ≡ k). far (at_it f)) (λ (f : i + 1 ≡ k). far (before_it f))
           ∙ inner_slope_lem U ks vs i b (omega arith)
 
       more : 2 < length ks → built_slope U ks' vs' i ≡ built_slope U ks vs i

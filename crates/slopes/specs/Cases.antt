@@ -1,13 +1,13 @@
 -- The slope of a table at its first, its last and any other point.
 use Rattle.std.specs.Prelude.{◌≡◌, refl, Bool, cond, List, ℕ, ◌+◌, ◌-◌, ◌≤◌, ◌<◌, eqb, ltb, ℤ, length}
 use Rattle.std.proofs.Common.{sym, ◌∙◌, ap, ap₂, arith, eq-eqb, ne_eqb, lt-ltb, le-ltb}
-use Rattle.cubic.specs.Slopes.{secant_slope}
+use Rattle.cubic.specs.Slopes.{secant_slope, inner_slope}
 use Rattle.table.specs.Table.{step}
 use Rattle.slopes.specs.Slopes.{end_at, inner_at, built_slope}
 
--- a rule over two pieces, of the same under other names
-pub same_pieces : (rule : (h₁ z₁ h₂ z₂ : ℤ) → ℤ) {h₁ z₁ h₂ z₂ h₁' z₁' h₂' z₂' : ℤ} → h₁ ≡ h₁' → z₁ ≡ z₁' → h₂ ≡ h₂' → z₂ ≡ z₂' → rule h₁ z₁ h₂ z₂ ≡ rule h₁' z₁' h₂' z₂'
-same_pieces rule {h₂ = h₂} {z₂} {h₁'} {z₁'} a b c d = ap₂ (λ (h z : ℤ). rule h z h₂ z₂) a b ∙ ap₂ (rule h₁' z₁') c d
+-- a rule over a unit and two pieces, of the same under other names
+pub same_pieces : (rule : (U h₁ z₁ h₂ z₂ : ℤ) → ℤ) {U h₁ z₁ h₂ z₂ U' h₁' z₁' h₂' z₂' : ℤ} → U ≡ U' → h₁ ≡ h₁' → z₁ ≡ z₁' → h₂ ≡ h₂' → z₂ ≡ z₂' → rule U h₁ z₁ h₂ z₂ ≡ rule U' h₁' z₁' h₂' z₂'
+same_pieces rule {h₁ = h₁} {z₁} {h₂} {z₂} {U'} {h₁'} {z₁'} u a b c d = ap (λ (U : ℤ). rule U h₁ z₁ h₂ z₂) u ∙ ap₂ (λ (h z : ℤ). rule U' h z h₂ z₂) a b ∙ ap₂ (rule U' h₁' z₁') c d
 
 module _ (U : ℤ) (ks vs : List ℤ) (i : ℕ) where
   -- by the three tests that the definition makes
@@ -28,3 +28,7 @@ module _ (U : ℤ) (ks vs : List ℤ) (i : ℕ) where
 
   pub inner_slope_lem : 0 < i → i + 1 < length ks → inner_at U ks vs (i - 1) i ≡ built_slope U ks vs i
   inner_slope_lem b l = chosen (lt-ltb 2 (length ks) (omega arith)) (ne_eqb i 0 (λ (z : i ≡ 0). omega arith)) (lt-ltb (i + 1) (length ks) l)
+
+  -- of the unit and the pieces as they were read
+  pub inner_slope_of : {W h₁ z₁ h₂ z₂ : ℤ} → 0 < i → i + 1 < length ks → W ≡ U → h₁ ≡ step ks (i - 1) → z₁ ≡ step vs (i - 1) → h₂ ≡ step ks i → z₂ ≡ step vs i → inner_slope W h₁ z₁ h₂ z₂ ≡ built_slope U ks vs i
+  inner_slope_of b l u h₁ z₁ h₂ z₂ = same_pieces inner_slope u h₁ z₁ h₂ z₂ ∙ inner_slope_lem b l

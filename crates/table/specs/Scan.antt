@@ -76,3 +76,7 @@ module _ (H : ℕ → ℕ → Type 0) where
   pub standing_there : {last n p : ℕ} → 3 < n → Standing last n p → (m : ℕ) → ((c q : ℕ) → 3 ≤ c → c ≤ last → H c q → q + 1 < m) → p + 1 < m
   standing_there l (nothing s) m there = absurd (omega (arith, l))
   standing_there l (so_far a b h u v) m there = there _ _ a b h
+
+  pub standing_within : {last n p : ℕ} → Standing last n p → n ≤ last
+  standing_within (nothing s) = omega arith
+  standing_within (so_far a b h u v) = b

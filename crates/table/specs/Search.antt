@@ -1,7 +1,8 @@
 -- What the search for a faulty piece asks of a piece, and what it answers. Nobody has to believe this file: `first` promises `Given`.
-use Rattle.std.specs.Prelude.{◌≡◌, refl, List, [], ◌∷◌, ℕ, zero, suc, ◌-◌, ◌≤◌, ◌<◌, ℤ, set, Option, None, Some}
-use Rattle.std.proofs.Common.{ap, arith, length-set, SFits, to_z, of_z, to_z-of_z}
-use Rattle.std.specs.Int.{w32}
+use Rattle.std.specs.Prelude.{◌≡◌, refl, List, [], ◌∷◌, ℕ, zero, suc, ◌-◌, ◌^◌, ◌≤◌, ◌<◌, ℤ, set, Option, None, Some}
+use Rattle.std.proofs.Common.{sym, ap, subst, arith, length-set, SFits, to_z, of_z, to_z-of_z}
+use Rattle.std.specs.Int.Signed.{mag}
+use Rattle.std.specs.Int.{w32, w64}
 use Rattle.integers.specs.Within.{Within}
 use Rattle.table.specs.declared.changed.Change.{Change}
 use Rattle.table.specs.Table.{Table, table, entry, point_count}
@@ -99,6 +100,9 @@ pub record SlopeFor (last : ℕ) (slopes : List ℤ) (i : ℕ) (m : ℤ) : Type 
 pub record Read (x r : ℤ) : Type 0 where
   pub is : r ≡ x
   pub within : Within 2147483648 r
+
+pub as_read : {x r : ℤ} → mag r < 2 ^ 63 → Read x r → Read x (to_z w64 (of_z w64 r))
+as_read {x} ok = subst (Read x) (sym (to_z-of_z {w = w64} (record { sfits = ok })))
 
 -- a list with a new entry as it came in
 pub as_it_came : (list : List ℤ) (at : ℕ) {new : ℤ} → SFits w32 new → set list at (to_z w32 (of_z w32 new)) ≡ set list at new

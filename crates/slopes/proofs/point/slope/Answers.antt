@@ -1,5 +1,5 @@
 -- The last point of three or more, and a point with another on either side.
-use Rattle.std.proofs.Common.{◌∙◌, arith}
+use Rattle.std.proofs.Common.{refl, ◌∙◌, arith}
 use Rattle.std.specs.Int.{w32}
 use Rattle.integers.specs.Sizes.{returned}
 use Rattle.cubic.specs.Slopes.{end_slope, inner_slope}
@@ -12,7 +12,7 @@ returns-then-n-i-lt2 c =
     let first = c.piece-then-n-i-lt2.ensures in
     let next = c.piece-then-n-i-lt2-2.ensures in
     returned w32 c.end-then-n-i-lt2.type_inv c.end-then-n-i-lt2.ensures
-    ∙ same_pieces (end_slope a.unit.size) first.h first.z next.h next.z
+    ∙ same_pieces end_slope {U = a.unit.size} refl first.h first.z next.h next.z
     ∙ last_slope a.unit.size a.points.knots.now a.points.values.now a.i (omega arith) (omega arith)
 
 pub returns : goal.returns
@@ -21,5 +21,5 @@ returns c =
     let left = c.piece-2.ensures in
     let right = c.piece-3.ensures in
     returned w32 c.inner.type_inv c.inner.ensures
-    ∙ same_pieces (inner_slope a.unit.size) left.h left.z right.h right.z
+    ∙ same_pieces inner_slope {U = a.unit.size} refl left.h left.z right.h right.z
     ∙ inner_slope_lem a.unit.size a.points.knots.now a.points.values.now a.i (omega arith) (omega arith)

@@ -1,6 +1,6 @@
 -- A fall is a rise turned over.
 use Rattle.std.specs.Prelude.{List, [], ◌∷◌, neg_ℤ}
-use Rattle.std.proofs.Common.{sym, ◌∙◌, ap, subst}
+use Rattle.std.proofs.Common.{refl, sym, ◌∙◌, ap, subst}
 use Rattle.integers.specs.Order.{minus_twice}
 use Rattle.integers.specs.Within.{Within}
 use Rattle.integers.specs.Sizes.{Known, known, fits, plain_is, code}
@@ -24,5 +24,5 @@ returns-then-first-lt0 c =
     let m = c.mirrored.ensures in
     let n = c.mirrored-then-first-lt0.ensures in
     plain_is {Γ = given c} (search code depth 30 fits 9000) tt
-    ∙ ap neg_ℤ (c.rising_end.ensures ∙ same_pieces (end_slope a.unit.size) m.h m.z n.h n.z ∙ end_turned a.unit.size a.first.h a.first.z a.next.h a.next.z)
+    ∙ ap neg_ℤ (c.rising_end.ensures ∙ same_pieces end_slope {U = a.unit.size} refl m.h m.z n.h n.z ∙ end_turned a.unit.size a.first.h a.first.z a.next.h a.next.z)
     ∙ minus_twice (end_slope a.unit.size a.first.h a.first.z a.next.h a.next.z)

@@ -1,6 +1,6 @@
 -- Each way through the code is one case of the rule. What the test of the product says is looked up by what it says, and not by how the code spells it.
 use Rattle.std.specs.Prelude.{◌≡◌, true, false, [], ◌∷◌, ℤ, pos, neg_ℤ, ◌*ℤ◌, ◌≤ℤ◌, ◌<ℤ◌}
-use Rattle.std.proofs.Common.{sym, ◌∙◌, ap, ap₂, subst, to_z, of_z}
+use Rattle.std.proofs.Common.{refl, sym, ◌∙◌, ap, ap₂, subst, to_z, of_z}
 use Rattle.std.specs.Int.{w32, w64}
 use Rattle.std.specs.Int.Signed.{le_z, lt_z}
 use Rattle.integers.specs.Ring.{ring, quote}
@@ -73,7 +73,7 @@ returns-then-left-lt0 c =
     let m = c.mirrored.ensures in
     let n = c.mirrored-then-left-lt0.ensures in
     plain_is {Γ = known c.mean.result 805306368 c.mean.ensures.size ∷ []} (search code depth 30 fits 9000) tt
-    ∙ ap neg_ℤ (c.mean.ensures.value ∙ same_pieces (mean a.unit.size) m.h m.z n.h n.z)
+    ∙ ap neg_ℤ (c.mean.ensures.value ∙ same_pieces mean {U = a.unit.size} refl m.h m.z n.h n.z)
     ∙ is_falling a.unit a.left a.right (assumption) c.if-left-lt0.true
 
 -- ---- two rises

@@ -1,6 +1,6 @@
 -- What is written is the next slope, and the piece on its right is the next one's left.
 use Rattle.std.specs.Prelude.{◌+◌, ◌-◌, List, ℤ, set}
-use Rattle.std.proofs.Common.{◌∙◌, ap, ap₂, arith}
+use Rattle.std.proofs.Common.{refl, ◌∙◌, ap, ap₂, arith}
 use Rattle.std.specs.Int.{w32}
 use Rattle.integers.specs.Sizes.{returned}
 use Rattle.cubic.specs.Slopes.{inner_slope}
@@ -24,7 +24,7 @@ loop-i-preserved c =
       slopes =
           ap₂ (λ (list : List ℤ) (m : ℤ). set list i m) left.slopes
           (returned w32 c.inner.type_inv c.inner.ensures
-          ∙ same_pieces (inner_slope a.unit.size) left.h left.z right.h right.z
+          ∙ same_pieces inner_slope {U = a.unit.size} refl left.h left.z right.h right.z
           ∙ inner_slope_lem a.unit.size ks vs i (omega arith) (omega arith))
           ∙ put_next (built_slope a.unit.size ks vs) 1 a.slopes.now i c.loop-i.auto.i;
     }
