@@ -394,21 +394,25 @@ fn knot(i: usize) -> i32
     (1 + i / 3 * 6 + turn + turn / 2) as i32
 }
 
-// What is answered in the table of these knots at each position.
+// What is answered in the table of these knots at each position, to C alone, as these are many.
 fn pieces_of(rt: &(impl Print + Eprint), knots: &[i32], level: &[i32])
     requires { length knots.now ≤ 1024 }
 {
     let points = natural(knots.len());
-    let table = Table {
-        s: S,
-        knots,
-        values: level,
-        slopes: level,
-    };
     for position in 0..=2 * knots.len() as i32 {
         write(rt, b"locate # ", b"", &[Signed::from(position)]);
         write(rt, b"of # points ", b"", &[points]);
-        located(rt, table, position);
+        let crossed = exports::negwafir_locate(S, knots, level, level, position);
+        write(
+            rt,
+            b"# # #\n",
+            b"",
+            &[
+                natural(crossed.refusal.number as usize),
+                natural(crossed.refusal.place),
+                natural(crossed.piece),
+            ],
+        );
     }
 }
 
