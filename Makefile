@@ -5,7 +5,7 @@
 #   make uninstall PREFIX=/some/where
 #
 # DESTDIR, put before PREFIX, is where a package is put together. The archive is for x86-64, also where it is made on Arm.
-VERSION := 5.0.0
+VERSION := 5.1.0
 PREFIX ?= /usr/local
 
 # make takes a space for the end of a name, and the shell a sign such as & for its own.
